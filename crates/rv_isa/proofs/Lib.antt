@@ -1,0 +1,5 @@
+pub mod Fields
+pub mod RoundTrip
+pub mod Words
+pub mod TextStays
+mod Rows

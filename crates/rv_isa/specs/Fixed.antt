@@ -1,0 +1,14 @@
+-- The text stays as it is while a program runs.
+use Rattle.std.specs.Prelude.{◌≡◌, ℕ, ◌+◌, ◌*◌, ◌<◌, List, length, slice_index}
+use Rattle.rv_isa.specs.Memory.{Memory, word_at}
+use Rattle.rv_isa.specs.Step.{Outcome, Goes, Asks, Faults}
+
+-- the words of the text stand in memory
+abbrev pub HoldsText : List ℕ → Memory → Type 0
+HoldsText text m = (k : ℕ) → k < length text → word_at m (65536 + 4 * k) ≡ slice_index text k
+
+-- the memory after an instruction
+abbrev pub left_memory : Outcome → Memory
+left_memory (Goes to) = to.memory
+left_memory (Asks what to) = to.memory
+left_memory (Faults why at) = at.memory
