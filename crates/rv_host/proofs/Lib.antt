@@ -1,0 +1,4 @@
+pub mod Consoles
+pub mod ClosedFiles
+pub mod Asking
+pub mod Turns

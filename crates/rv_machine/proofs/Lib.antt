@@ -1,0 +1,5 @@
+pub mod Texts
+pub mod Steps
+pub mod Bytes
+pub mod Runs
+pub mod Start

@@ -1,0 +1,9 @@
+pub mod Lexemes
+pub mod Front
+pub mod Statements
+pub mod Nexts
+pub mod Emitted
+pub mod Note
+pub mod Command
+pub mod Source
+pub mod Answer
