@@ -2,6 +2,20 @@ pub mod Values
 pub mod Prefix
 pub mod Lexing
 pub mod Reading
+pub mod ReadingPrograms
+pub mod ValueSteps
+pub mod ValueLoop
+pub mod ValueOutput
 pub mod Pairs
 pub mod Lengths
+pub mod Places
+pub mod Output
+pub mod Stretch
+pub mod Fitting
+pub mod Pieces
+pub mod Whole
+pub mod Agreeing
 pub mod Answering
+pub mod Sources
+pub mod Fetched
+mod Rows

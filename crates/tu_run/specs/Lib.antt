@@ -2,8 +2,14 @@ pub mod Lexemes
 pub mod Front
 pub mod Statements
 pub mod Nexts
-pub mod Emitted
-pub mod Note
-pub mod Command
 pub mod Source
+pub mod Outcome
+pub mod Emitted
+pub mod Runs
+pub mod Refusal
+pub mod Command
+pub mod Note
+pub mod Outside
+pub mod Ran
 pub mod Answer
+pub mod Sourced

@@ -1,12 +1,16 @@
 // The answer of a command, before its note.
-ghost use Rattle.std.specs.Prelude.{◌≡◌, ◌≢◌, ◌≤◌, length, true, Some, None};
+ghost use Rattle.std.specs.Prelude.{◌≡◌, ◌≢◌, ◌≤◌, length, true, Some, None, IfOk};
+ghost use Rattle.std.specs.List.{All};
 ghost use Rattle.tu_outside.specs.Causes.{Rose};
-ghost use Rattle.tu_run.specs.Answer.{Answers, RunsImage, RunsSource, status_of, is_of_run};
+ghost use Rattle.tu_run.specs.Outcome.{output_of, finish_of};
+ghost use Rattle.tu_run.specs.Runs.{IsOutput, picture_of};
+ghost use Rattle.tu_run.specs.Answer.{Answers};
+ghost use Rattle.tu_run.specs.Ran.{RunsClosed};
+ghost use Rattle.tu_run.specs.Sourced.{RunsSource, status_of, is_of_run};
 
 use crate::command::run_file;
 use crate::emitter::emit;
 use crate::program::read_program;
-use crate::statement::Statement;
 use crate::value::outcome;
 use crate::{Refusal, Report, Status, TypeError};
 use rv_host::{HostEnd, run};
@@ -14,6 +18,7 @@ use rv_image::Image;
 use rv_machine::Machine;
 use std::alloc::Global;
 use tu_base::{Bytes, Memory, Words};
+use tu_meaning::Statement;
 use tu_outside::{Cabinet, CabinetError, Console, Fetched};
 
 /// In bytes.
@@ -29,10 +34,14 @@ fn plain(status: Status) -> Report
     }
 }
 
-fn compile(alloc: Global, statement: &Statement) -> Result<Image, Memory>
-    requires { statement.now.line ≤ 1048577 }
+// The image of a program.
+fn compile(alloc: Global, program: &[Statement]) -> Result<Image, Memory>
+    requires lines { All (λ s. s.line ≤ 1048577) program.now }
+    requires few { length program.now ≤ 32768 }
+    ensures image { IfOk result (λ image. image ≡ picture_of (output_of program.now) (finish_of program.now)) }
+    ensures output { IfOk result (λ _. IsOutput (output_of program.now) (finish_of program.now)) }
 {
-    let (output, finish) = outcome(alloc, statement)?;
+    let (output, finish) = outcome(alloc, program)?;
     emit(alloc, output.as_slice(), finish)
 }
 
@@ -60,7 +69,7 @@ fn run_image<C: Console, K: Cabinet>(
 ) -> Report
     ensures image { result.image ≡ Some image }
     ensures status { is_of_run result.status ≡ true }
-    ensures runs { RunsImage image budget
+    ensures runs { RunsClosed image budget
         (record { left = C.left console.old; events = C.events console.old; files = K.files cabinet.old; console_faults = C.faults console.old; cabinet_faults = K.faults cabinet.old })
         (record { left = C.left console.new; events = C.events console.new; files = K.files cabinet.new; console_faults = C.faults console.new; cabinet_faults = K.faults cabinet.new })
         result.status result.instructions }
@@ -92,18 +101,19 @@ fn run_source<C: Console, K: Cabinet>(
     cabinet: &mut K,
     budget: u64,
 ) -> Report
-    requires { length source.now ≤ 1048576 }
+    requires size { length source.now ≤ 1048576 }
+    requires budget { 11 ≤ budget }
     ensures { RunsSource source.now budget
         (record { left = C.left console.old; events = C.events console.old; files = K.files cabinet.old; console_faults = C.faults console.old; cabinet_faults = K.faults cabinet.old })
         (record { left = C.left console.new; events = C.events console.new; files = K.files cabinet.new; console_faults = C.faults console.new; cabinet_faults = K.faults cabinet.new })
         result }
 {
-    let statement = match read_program(alloc, source.as_slice()) {
-        Ok(Some(statement)) => statement,
+    let program = match read_program(alloc, source.as_slice()) {
+        Ok(Some(program)) => program,
         Ok(None) => return plain(Status::Refused(Refusal::Types(TypeError::NotBuilt(1)))),
         Err(_) => return plain(Status::OutOfMemory),
     };
-    match compile(alloc, &statement) {
+    match compile(alloc, &program) {
         Ok(image) => run_image(alloc, image, console, cabinet, budget),
         Err(_) => plain(Status::OutOfMemory),
     }
@@ -117,6 +127,7 @@ pub fn answer<C: Console, K: Cabinet>(
     cabinet: &mut K,
     budget: u64,
 ) -> Report
+    requires { 11 ≤ budget }
     ensures reached { result.status ≢ Status.NoteFault }
     ensures answers { Answers words.now budget
         (record { left = C.left console.old; events = C.events console.old; files = K.files cabinet.old; console_faults = C.faults console.old; cabinet_faults = K.faults cabinet.old })

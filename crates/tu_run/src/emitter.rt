@@ -11,7 +11,9 @@ use tu_base::{Kind, Line, Memory};
 /// How the program finishes after its output.
 #[derive(Clone, Copy, Debug, PartialEq, Eq)]
 pub enum Finish {
+    /// At its end.
     Ended,
+    /// By an exception at a line.
     Stopped { kind: Kind, line: Line },
 }
 
@@ -158,7 +160,8 @@ fn text_of(alloc: Global, bytes: &[u8], finish: Finish) -> Result<Text, Memory>
     Ok(text)
 }
 
-/// The image that writes these bytes and then ends or stops.
+/// The image that writes these bytes, at most 1,048,576, and then ends or stops at a line below
+/// 2,147,483,648. It answers `Memory` only where memory ran out.
 pub fn emit(alloc: Global, bytes: &[u8], finish: Finish) -> Result<Image, Memory>
     requires size { length bytes.now ≤ 1048576 }
     requires line { line_of finish < 2147483648 }

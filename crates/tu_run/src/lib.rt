@@ -4,16 +4,17 @@
 mod answer;
 mod command;
 mod emitter;
+mod laws;
 mod lexer;
 mod note;
 mod program;
 mod reader;
 mod report;
-mod statement;
 mod token;
 mod top;
 mod value;
 
+pub use laws::{emitted_agrees, emitted_runs, outcome_is_meant};
 pub use report::{Refusal, Report, Status, TypeError};
 pub use top::turing;
 

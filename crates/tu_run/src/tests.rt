@@ -2,81 +2,65 @@ use crate::{Refusal, Report, Status, TypeError, turing};
 use rv_image::Image;
 use rv_isa::{ImmediateOp, Instr, RegisterOp, Relation, StoreKind, Text, decode, encode};
 use std::alloc::Global;
-use std::process::Abort;
 use std::test::Fail;
-use tu_base::{Bytes, Event, Kind, Memory, Numbers, Words};
+use tu_base::{Bytes, Event, Kind, Line, Memory, Numbers, Words};
 use tu_outside::{Cabinet, CabinetError, MemoryCabinet, MemoryConsole, MemoryNotes};
-
-const OVERFLOW: Status = Status::Stopped {
-    kind: Kind::Overflow,
-    line: 1,
-};
 
 const NOT_BUILT: Status = Status::Refused(Refusal::Types(TypeError::NotBuilt(1)));
 
+fn overflow(line: Line) -> Status {
+    let kind = Kind::Overflow;
+    Status::Stopped { kind, line }
+}
+
 // The devices of one call.
-struct Devices {
+#[derive(Drop)]
+struct Outside {
     console: MemoryConsole,
     cabinet: MemoryCabinet,
     notes: MemoryNotes,
 }
 
-impl Drop for Devices {
-    fn drop(self) {
-        let Devices {
-            console: _,
-            cabinet: _,
-            notes: _,
-        } = self;
-    }
-}
-
-// Which calls of console, cabinet and notes fail: the first one, or none.
+// Which calls fail, by their numbers from 1, and what the reserves are.
 #[derive(Clone, Copy)]
-struct Failing {
-    console: bool,
-    cabinet: bool,
-    notes: bool,
+struct Plan {
+    console: u64,
+    cabinet: u64,
+    notes: u64,
+    events: u64,
+    bytes: u64,
 }
 
-const NONE: Failing = Failing {
-    console: false,
-    cabinet: false,
-    notes: false,
+const AMPLE: Plan = Plan {
+    console: 0,
+    cabinet: 0,
+    notes: 0,
+    events: 1000,
+    bytes: 1000,
 };
 
-fn first_call(alloc: Global, fails: bool, number: u64) -> Result<Numbers, Memory> {
-    let mut numbers = Numbers::make(alloc);
-    if fails {
-        numbers.add(number)?;
-    }
-    Ok(numbers)
+fn only(alloc: Global, number: u64) -> Result<Numbers, Memory> {
+    Numbers::from_slice(alloc, &[number])
 }
 
-// Devices with ample reserves, and a file `a.t`.
-fn make_devices(alloc: Global, source: &[u8], failing: Failing) -> Result<Devices, CabinetError> {
-    let mut console = MemoryConsole::make(
-        alloc,
-        &Bytes::make(alloc),
-        &first_call(alloc, failing.console, 1)?,
-    )?;
-    console.reserve(1000)?;
-    let mut cabinet = MemoryCabinet::make(alloc, &first_call(alloc, failing.cabinet, 2)?)?;
-    cabinet.keep(
-        alloc,
-        &Bytes::from_slice(alloc, b"a.t")?,
-        &Bytes::from_slice(alloc, source)?,
-    )?;
-    let mut notes = MemoryNotes::make(alloc, &first_call(alloc, failing.notes, 1)?)?;
-    notes.reserve(1000)?;
-    Ok(Devices {
+// Devices with a file `a.t`, which is the cabinet's first call.
+fn make_outside(alloc: Global, source: &[u8], plan: Plan) -> Result<Outside, CabinetError> {
+    let input = Bytes::make(alloc);
+    let mut console = MemoryConsole::make(alloc, &input, &only(alloc, plan.console)?)?;
+    console.reserve(plan.events)?;
+    let mut cabinet = MemoryCabinet::make(alloc, &only(alloc, plan.cabinet)?)?;
+    let name = Bytes::from_slice(alloc, b"a.t")?;
+    cabinet.keep(alloc, &name, &Bytes::from_slice(alloc, source)?)?;
+    let mut notes = MemoryNotes::make(alloc, &only(alloc, plan.notes)?)?;
+    notes.reserve(plan.bytes)?;
+    Ok(Outside {
         console,
         cabinet,
         notes,
     })
 }
 
-fn call(alloc: Global, words: &[&str], devices: &mut Devices) -> Result<Report, Memory> {
+fn call(alloc: Global, words: &[&str], outside: &mut Outside) -> Result<Report, Memory> {
     let mut list = Words::make(alloc);
     for word in words {
         list.add(Bytes::from_slice(alloc, word.as_bytes())?)?;
@@ -84,9 +68,9 @@ fn call(alloc: Global, words: &[&str], devices: &mut Devices) -> Result<Report, 
     Ok(turing(
         alloc,
         &list,
-        &mut devices.console,
-        &mut devices.cabinet,
-        &mut devices.notes,
+        &mut outside.console,
+        &mut outside.cabinet,
+        &mut outside.notes,
     ))
 }
 
@@ -99,7 +83,7 @@ fn has_written(console: &MemoryConsole, output: &[u8]) -> bool {
             .all(|(event, byte)| *event == Event::Put(*byte))
 }
 
-// The lines are these: one, or none where it is empty.
+// The lines are this one, or none where it is empty.
 fn has_noted(alloc: Global, notes: &MemoryNotes, note: &str) -> Result<bool, Memory> {
     let mut lines = Words::make(alloc);
     if !note.is_empty() {
@@ -113,20 +97,23 @@ fn sources_are_run_or_refused(rt: HostRuntime) -> Result<(), Fail> {
     let alloc = rt.alloc();
     let largest = vec![in alloc; b' '; 1_048_576]?;
     let larger = vec![in alloc; b' '; 1_048_577]?;
-    let rows: [(&[u8], Status, &[u8], &str); 14] = [
+    let three = b"put 5\n\nput 2147483647 * 2\nput 6\n";
+    let rows: [(&[u8], Status, &[u8], &str); 16] = [
         (b"put 1 + 2 * 3\n", Status::Ended, b"7\n", ""),
         (b"put 2 - 3 * 4 - 5", Status::Ended, b"-15\n", ""),
         (b"\r\n\tput\n007*2", Status::Ended, b"14\n", ""),
-        (b"put 2147483647 + 1", OVERFLOW, b"", "line 1: Overflow"),
+        (b"put 1 put 2", Status::Ended, b"1\n2\n", ""),
         (b"put 2147483647", Status::Ended, b"2147483647\n", ""),
         (b"put 0 - 2147483647", Status::Ended, b"-2147483647\n", ""),
+        (b"", Status::Ended, b"", ""),
+        (&largest, Status::Ended, b"", ""),
+        (b"put 2147483647 + 1", overflow(1), b"", "line 1: Overflow"),
+        (three, overflow(3), b"5\n", "line 3: Overflow"),
         (b"put 2147483648", NOT_BUILT, b"", "line 1: Types NotBuilt"),
         (b"put 1put 2", NOT_BUILT, b"", "line 1: Types NotBuilt"),
         (b"put1", NOT_BUILT, b"", "line 1: Types NotBuilt"),
         (b"put 1 +", NOT_BUILT, b"", "line 1: Types NotBuilt"),
         (b"put -1", NOT_BUILT, b"", "line 1: Types NotBuilt"),
-        (b"", NOT_BUILT, b"", "line 1: Types NotBuilt"),
-        (&largest, NOT_BUILT, b"", "line 1: Types NotBuilt"),
         (
             &larger,
             Status::Refused(Refusal::Size),
@@ -135,11 +122,11 @@ fn sources_are_run_or_refused(rt: HostRuntime) -> Result<(), Fail> {
         ),
     ];
     for (source, status, output, note) in rows {
-        let mut devices = make_devices(alloc, source, NONE)?;
-        let report = call(alloc, ["run", "a.t"].as_slice(), &mut devices)?;
+        let mut outside = make_outside(alloc, source, AMPLE)?;
+        let report = call(alloc, ["run", "a.t"].as_slice(), &mut outside)?;
         assert_eq!(rt; report.status, status);
-        assert!(rt; has_written(&devices.console, output));
-        assert!(rt; has_noted(alloc, &devices.notes, note)?);
+        assert!(rt; has_written(&outside.console, output));
+        assert!(rt; has_noted(alloc, &outside.notes, note)?);
     }
     Ok(())
 }
@@ -157,117 +144,137 @@ fn words_and_files_are_looked_for(rt: HostRuntime) -> Result<(), Fail> {
         (&["run", "none.t"], Status::NoFile, "no such file"),
     ];
     for (words, status, note) in rows {
-        let mut devices = make_devices(alloc, b"put 1", NONE)?;
-        let report = call(alloc, words, &mut devices)?;
+        let mut outside = make_outside(alloc, b"put 1", AMPLE)?;
+        let report = call(alloc, words, &mut outside)?;
         assert_eq!(rt; report.status, status);
         assert_eq!(rt; report.instructions, 0);
-        assert!(rt; has_written(&devices.console, b""));
-        assert!(rt; has_noted(alloc, &devices.notes, note)?);
+        assert!(rt; has_written(&outside.console, b""));
+        assert!(rt; has_noted(alloc, &outside.notes, note)?);
     }
     Ok(())
 }
 
 #[test]
-fn devices_fail_at_their_first_call(rt: HostRuntime) -> Result<(), Fail> {
+fn devices_fail_in_turn(rt: HostRuntime) -> Result<(), Fail> {
     let alloc = rt.alloc();
-    let console = Failing {
-        console: true,
-        ..NONE
-    };
-    let cabinet = Failing {
-        cabinet: true,
-        ..NONE
-    };
-    let notes = Failing {
-        notes: true,
-        ..NONE
-    };
-    let rows: [(&[u8], Failing, Status, &str); 3] = [
-        (b"put 7", console, Status::ConsoleFault, "console failed"),
-        (b"put 7", cabinet, Status::CabinetFault, "file failed"),
-        (b"put 2147483647 + 1", notes, Status::NoteFault, ""),
+    let source = b"put 7 put 2147483647 + 1";
+    let stopped = "line 1: Overflow";
+    let rows: [(Plan, Status, &[u8], &str); 8] = [
+        (
+            Plan {
+                console: 1,
+                ..AMPLE
+            },
+            Status::ConsoleFault,
+            b"",
+            "console failed",
+        ),
+        (
+            Plan {
+                console: 2,
+                ..AMPLE
+            },
+            overflow(1),
+            b"7\n",
+            stopped,
+        ),
+        (
+            Plan { events: 1, ..AMPLE },
+            Status::ConsoleFault,
+            b"",
+            "console failed",
+        ),
+        (
+            Plan {
+                cabinet: 2,
+                ..AMPLE
+            },
+            Status::CabinetFault,
+            b"",
+            "file failed",
+        ),
+        (
+            Plan {
+                cabinet: 3,
+                ..AMPLE
+            },
+            overflow(1),
+            b"7\n",
+            stopped,
+        ),
+        (Plan { notes: 1, ..AMPLE }, Status::NoteFault, b"7\n", ""),
+        (Plan { notes: 2, ..AMPLE }, overflow(1), b"7\n", stopped),
+        (Plan { bytes: 16, ..AMPLE }, Status::NoteFault, b"7\n", ""),
     ];
-    for (source, failing, status, note) in rows {
-        let mut devices = make_devices(alloc, source, failing)?;
-        let report = call(alloc, ["run", "a.t"].as_slice(), &mut devices)?;
+    for (plan, status, output, note) in rows {
+        let mut outside = make_outside(alloc, source, plan)?;
+        let report = call(alloc, ["run", "a.t"].as_slice(), &mut outside)?;
+        let console = outside.console.fault_count();
+        let cabinet = outside.cabinet.fault_count();
+        let faults = console.saturating_add(cabinet);
+        let faults = faults.saturating_add(outside.notes.fault_count());
         assert_eq!(rt; report.status, status);
-        assert!(rt; has_written(&devices.console, b""));
-        assert!(rt; has_noted(alloc, &devices.notes, note)?);
-        assert_eq!(rt; devices.console.fault_count(), failing.console as u64);
-        assert_eq!(rt; devices.cabinet.fault_count(), failing.cabinet as u64);
-        assert_eq!(rt; devices.notes.fault_count(), failing.notes as u64);
+        assert!(rt; has_written(&outside.console, output));
+        assert!(rt; has_noted(alloc, &outside.notes, note)?);
+        assert_eq!(rt; faults, (status != overflow(1)) as u64);
     }
     Ok(())
+}
+
+fn on_registers(op: RegisterOp) -> Instr {
+    Instr::Register {
+        op,
+        rd: 3,
+        rs1: 1,
+        rs2: 2,
+    }
 }
 
 #[test]
 fn instructions_have_their_words(rt: HostRuntime) -> Result<(), Fail> {
     let alloc = rt.alloc();
-    let add = RegisterOp::Add;
-    let mul = RegisterOp::Mul;
+    let (op, kind, relation) = (ImmediateOp::Addi, StoreKind::Word, Relation::Equal);
+    let (rs1, rs2, offset) = (1, 2, 8);
+    let (rd, value) = (1, 5);
+    let addi = Instr::Immediate {
+        op,
+        rd,
+        rs1: 0,
+        value,
+    };
+    let sw = Instr::Store {
+        kind,
+        rs1,
+        rs2,
+        offset,
+    };
+    let beq = Instr::Branch {
+        relation,
+        rs1,
+        rs2,
+        offset,
+    };
     let rows = [
+        (addi, 0x0050_0093, [0x93, 0, 0x50, 0]),
         (
-            Instr::Immediate {
-                op: ImmediateOp::Addi,
-                rd: 1,
-                rs1: 0,
-                value: 5,
-            },
-            0x0050_0093,
-            [0x93, 0, 0x50, 0],
-        ),
-        (
-            Instr::Register {
-                op: add,
-                rd: 3,
-                rs1: 1,
-                rs2: 2,
-            },
+            on_registers(RegisterOp::Add),
             0x0020_81b3,
             [0xb3, 0x81, 0x20, 0],
         ),
         (
-            Instr::Register {
-                op: mul,
-                rd: 3,
-                rs1: 1,
-                rs2: 2,
-            },
+            on_registers(RegisterOp::Mul),
             0x0220_81b3,
             [0xb3, 0x81, 0x20, 2],
         ),
-        (
-            Instr::Store {
-                kind: StoreKind::Word,
-                rs1: 1,
-                rs2: 2,
-                offset: 8,
-            },
-            0x0020_a423,
-            [0x23, 0xa4, 0x20, 0],
-        ),
-        (
-            Instr::Branch {
-                relation: Relation::Equal,
-                rs1: 1,
-                rs2: 2,
-                offset: 8,
-            },
-            0x0020_8463,
-            [0x63, 0x84, 0x20, 0],
-        ),
-        (
-            Instr::Jal { rd: 1, offset: 16 },
-            0x0100_00ef,
-            [0xef, 0, 0, 1],
-        ),
+        (sw, 0x0020_a423, [0x23, 0xa4, 0x20, 0]),
+        (beq, 0x0020_8463, [0x63, 0x84, 0x20, 0]),
+        (Instr::Jal { rd, offset: 16 }, 0x0100_00ef, [0xef, 0, 0, 1]),
     ];
     for (op, word, bytes) in rows {
+        assert_eq!(rt; decode(word), Some(op));
         assert!(rt; op.fits());
         assert_eq!(rt; encode(op), word);
-        assert_eq!(rt; decode(word), Some(op));
-        let text = Text::from_slice(alloc, &[word])?;
-        let image = Image::make(text, 0, 0).bytes(alloc)?;
+        let image = Image::make(Text::from_slice(alloc, &[word])?, 0, 0).bytes(alloc)?;
         assert_eq!(rt; image.len(), 24);
         assert_eq!(rt; &image.as_slice()[20..], bytes.as_slice());
     }

@@ -1,0 +1,5 @@
+mod Rows
+pub mod Over
+pub mod Grouping
+pub mod Turns
+pub mod Programs
