@@ -1,5 +1,5 @@
 -- What a run leaves, as a command answers it.
-use Rattle.std.proofs.Common.{◌≡◌, ℕ, ◌≤◌, List, [], ◌∷◌, map, inl, inr, refl, ap, sym, ◌∙◌, subst}
+use Rattle.std.proofs.Common.{◌≡◌, ◌≢◌, ℕ, ◌≤◌, List, [], ◌∷◌, map, inl, inr, refl, ap, sym, ◌∙◌, subst}
 use Rattle.std.proofs.lemmas.Bool.{cases_lt}
 use Rattle.std.specs.Prelude.{Some}
 use Rattle.tu_base.specs.declared.event.Event.{Event}
@@ -15,7 +15,7 @@ use Rattle.rv_host.specs.Host.{IsWhole, Leaves, closed_run, verdict_told}
 use Rattle.rv_host.specs.declared.host.HostEnd.{HostEnd}
 use Rattle.rv_host.specs.declared.host.HostEnd.TheVariants.{Ended, Stopped, Spent, Fault, ConsoleFault, CabinetFault, Memory}
 use Rattle.tu_run.specs.declared.report.Status.{Status}
-use Rattle.tu_run.specs.declared.report.Status.TheVariants.{Spent as spent}
+use Rattle.tu_run.specs.declared.report.Status.TheVariants.{OutOfMemory, Spent as spent}
 use Rattle.tu_run.specs.declared.emitter.Finish.{Finish}
 use Rattle.tu_run.specs.Runs.{IsOutput, picture_of, instruction_count}
 use Rattle.tu_run.specs.Outside.{Outside}
@@ -48,10 +48,19 @@ spent_end ConsoleFault e = absurd (cc e)
 spent_end CabinetFault e = absurd (cc e)
 spent_end Memory e = absurd (cc e)
 
+memory_end : (end : HostEnd) → status_of end ≡ OutOfMemory → end ≡ Memory
+memory_end Ended e = absurd (cc e)
+memory_end (Stopped kind line) e = absurd (cc e)
+memory_end Spent e = absurd (cc e)
+memory_end (Fault kind pc) e = absurd (cc e)
+memory_end ConsoleFault e = absurd (cc e)
+memory_end CabinetFault e = absurd (cc e)
+memory_end Memory e = refl
+
 -- a loaded image that was run
 pub image_ran : (d : Device) (p : Picture) (budget count : ℕ) (end : HostEnd) (status : Status) (before after : Outside) → space_of d ≡ start_space p → cpu_of d ≡ start_cpu p → status ≡ status_of end
-    → Tells d budget end count before after → count ≤ budget → (end ≡ Spent → count ≡ budget) → RunsClosed p budget before after status count
-image_ran d p budget count end status before after s c is tells within all = record {
+    → Tells d budget end count before after → count ≤ budget → (end ≡ Spent → count ≡ budget) → end ≢ Memory → RunsClosed p budget before after status count
+image_ran d p budget count end status before after s c is tells within all some = record {
   whole = λ input events l e verdict v.
       let w = (tells input events l e).whole verdict (sym (same_verdict end) ∙ (ap verdict_shown (sym is) ∙ v)) in
       subst (λ r. IsWhole r verdict count events after.left after.events) (same_run d p s c input budget) w;
@@ -60,6 +69,7 @@ image_ran d p budget count end status before after s c is tells within all = rec
       subst (λ (r : Ran). HasSomeOf (Some events) after.events (events_of r.world.trace)) (same_run d p s c input count) b;
   within = within;
   spent = λ e. all (spent_end end (sym is ∙ e));
+  out_of_memory = λ e. absurd (some (memory_end end (sym is ∙ e)));
 }
 
 pub files_of-puts : (files : Files) (bytes : List ℕ) → files_of files (map Put bytes) ≡ files
@@ -90,4 +100,5 @@ emitted_ran bytes finish p budget count status before after h is same c =
       };
       within = c.within;
       spent = c.spent;
+      out_of_memory = c.out_of_memory;
     }

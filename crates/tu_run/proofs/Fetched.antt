@@ -14,9 +14,9 @@ use Rattle.tu_run.specs.declared.report.Status.TheVariants.{Refused, Usage, NoFi
 use Rattle.tu_run.specs.Command.{IsRun}
 use Rattle.tu_run.specs.Source.{IsBuilt, IsAccepted}
 use Rattle.tu_run.specs.Refusal.{IsRefused}
-use Rattle.tu_run.specs.Answer.{Exactly, Holds, Answers, IsCompiled}
+use Rattle.tu_run.specs.Answer.{Exactly, Holds, Answers, IsCompiled, is_of_run}
 use Rattle.tu_run.specs.Outside.{Outside}
-use Rattle.tu_run.specs.Sourced.{RunsSource, is_of_run}
+use Rattle.tu_run.specs.Sourced.{RunsSource}
 
 -- the outside behind a fetch
 abbrev pub behind_fetch : Outside → Option Files → ℕ → Outside
@@ -77,7 +77,8 @@ fetched_answers words file source budget faults files before after report named 
       refused = λ other refusal h. subst (λ x. Exactly (Refused refusal) report.status (IsRefused x refusal)) (sym (same_source words file source 1048576 before other f named h)) (refused_is source refusal report.status short r.kind r.not_built);
       compiled = λ other image h e. subst (λ x. IsCompiled x image) (sym (same_source words file source 1048576 before other f named h)) (r.compiled image e);
       has_image = λ other h a y. r.has_image (subst (λ x. IsAccepted x) (same_source words file source 1048576 before other f named h) a) y;
-      image_runs = λ image e. let i = r.image_runs image e in record { told = λ input events known l v t. i.told input events known l v (same ∙ t); within = i.within; spent = i.spent };
+      none_made = λ off. elim r.kind [ inl ran ↦ absurd (cc (off, ran)) | inr e ↦ r.none_made e ];
+      image_runs = λ image e. let i = r.image_runs image e in record { told = λ input events known l v t. i.told input events known l v (same ∙ t); within = i.within; spent = i.spent; out_of_memory = i.out_of_memory };
       untouched = λ e. let u = r.untouched e in record { left = u.left; events = u.events; files = u.files ∙ same; none = u.none };
       image_shows = r.image_shows;
       files = r.files ∙ same;

@@ -13,16 +13,11 @@ use Rattle.tu_run.specs.declared.token.Class.TheVariants.{Put, Number, Plus, Min
 use Rattle.tu_run.specs.declared.token.Token.{Token}
 use Rattle.tu_run.specs.Lexemes.{is_separator, is_word_byte, begins, goes_on, value_after, IsNumeral, IsLexeme, line_after, Begins, LexedFrom, IsLexed, IsLexing}
 use Rattle.tu_run.specs.Front.{number_of, numeral_of, numeral_in, is_put, word_in, sign_of, front}
-use Rattle.tu_run.proofs.Prefix.{prefix_passes, prefix_unique, prefix_some}
+use Rattle.tu_run.proofs.Prefix.{both, prefix_passes, prefix_unique, prefix_some}
 
 chosen : {A : Type 0} (b : Bool) (x y z : A) → cond b x y ≡ z → ((b ≡ true) × (x ≡ z)) ⊎ ((b ≡ false) × (y ≡ z))
 chosen true x y z e = inl (refl, e)
 chosen false x y z e = inr (refl, e)
-
-both : (a b : Bool) → (a && b) ≡ true → (a ≡ true) × (b ≡ true)
-both true true h = (refl, refl)
-both true false h = absurd (cc)
-both false b h = absurd (cc)
 
 digit_is_word : (b : ℕ) → is_word_byte b ≡ false → is_ascii_digit b ≡ false
 digit_is_word b e = grind arith

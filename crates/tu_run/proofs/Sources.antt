@@ -25,10 +25,10 @@ use Rattle.tu_run.specs.Emitted.{line_of}
 use Rattle.tu_run.specs.Outcome.{output_of, finish_of, finish_behind, statement_value, verdict_of_finish}
 use Rattle.tu_run.specs.Runs.{IsOutput, picture_of, whole_run, verdict_of_finish as machine_finish}
 use Rattle.tu_run.specs.Source.{IsBuilt}
-use Rattle.tu_run.specs.Answer.{Completes, yields_to, status_of_verdict}
+use Rattle.tu_run.specs.Answer.{Completes, yields_to, status_of_verdict, is_of_run}
 use Rattle.tu_run.specs.Outside.{Outside}
 use Rattle.tu_run.specs.Ran.{RunsImage, RunsClosed, verdict_shown}
-use Rattle.tu_run.specs.Sourced.{RunsSource, is_of_run}
+use Rattle.tu_run.specs.Sourced.{RunsSource}
 use Rattle.tu_run.proofs.Lengths.{length-code_of}
 use Rattle.tu_run.proofs.Whole.{writes_and_finishes}
 use Rattle.tu_run.proofs.Agreeing.{emitted_agrees}
@@ -152,6 +152,7 @@ pub none_answers : (source : List ℕ) (budget : ℕ) (before : Outside) → ((p
 none_answers source budget before none = record {
   not_built = record { only = λ _ a. none a.1.0 a.1.1; always = λ _ _. refl };
   kind = inr refl;
+  none_made = λ _. refl;
   has_image = λ a _. absurd (none a.1.0 a.1.1);
   compiled = λ image e. absurd (cc e);
   image_runs = λ image e. absurd (cc e);
@@ -214,6 +215,7 @@ pub run_answers : (source : List ℕ) (program : List Statement) (p : Picture) (
 run_answers source program p budget before after report w = record {
   not_built = record { only = λ e. absurd (refused_not_run report.status w.status e); always = λ none _. absurd (none (w.size, (program, w.built))) };
   kind = inl w.status;
+  none_made = λ e. absurd (refused_not_run report.status w.status e);
   has_image = λ _ _ e. let i = w.image in cc (i, e);
   compiled = λ image e.
       let same : p ≡ image = let i = w.image in cc (i, e) in

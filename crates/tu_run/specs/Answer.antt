@@ -19,7 +19,7 @@ use Rattle.tu_run.specs.Ran.{RunsImage, verdict_shown}
 use Rattle.tu_run.specs.declared.report.Refusal.{Refusal}
 use Rattle.tu_run.specs.declared.report.Report.{Report}
 use Rattle.tu_run.specs.declared.report.Status.{Status}
-use Rattle.tu_run.specs.declared.report.Status.TheVariants.{Ended, Stopped, Refused, Usage, NoFile, Spent, ConsoleFault, CabinetFault, OutOfMemory}
+use Rattle.tu_run.specs.declared.report.Status.TheVariants.{Ended, Stopped, Refused, Usage, NoFile, BadImage, Spent, ConsoleFault, CabinetFault, NoteFault, OutOfMemory, MachineFault}
 
 -- the statuses to which each other one yields
 abbrev pub yields_to : Status → Bool
@@ -27,6 +27,21 @@ yields_to ConsoleFault = true
 yields_to CabinetFault = true
 yields_to OutOfMemory = true
 yields_to other = false
+
+-- a status that a run may come to
+abbrev pub is_of_run : Status → Bool
+is_of_run Ended = true
+is_of_run (Stopped kind line) = true
+is_of_run (Refused refusal) = false
+is_of_run Usage = false
+is_of_run NoFile = false
+is_of_run (BadImage error) = false
+is_of_run Spent = true
+is_of_run ConsoleFault = true
+is_of_run CabinetFault = false
+is_of_run NoteFault = false
+is_of_run OutOfMemory = true
+is_of_run (MachineFault kind pc) = true
 
 -- A status comes only where its cause holds; where it holds, no other comes but one to which it yields.
 pub record Exactly (status reached : Status) (cause : Type 0) : Type 0 where
@@ -83,6 +98,8 @@ pub record Answers (words : List (List ℕ)) (budget : ℕ) (before after : Outs
   -- An image agrees with the source, which is then accepted. There is one for each accepted source, unless the answer is one to which all yield.
   pub compiled : (source : List ℕ) (image : Picture) → Holds words before source → report.image ≡ Some image → IsCompiled source image
   pub has_image : (source : List ℕ) → Holds words before source → IsAccepted source → yields_to report.status ≡ false → report.image ≢ None
+  -- With a status to which no run comes, as after a refusal, no image was made.
+  pub none_made : is_of_run report.status ≡ false → report.image ≡ None
   -- the run of the image, and that there is none without an image
   pub image_runs : (image : Picture) → report.image ≡ Some image → RunsImage image budget before after report.status report.instructions
   pub untouched : report.image ≡ None → IsUntouched before after report.instructions

@@ -41,6 +41,7 @@ pub record RunsImage (image : Picture) (budget : ℕ) (before after : Outside) (
       Runs (machine_run image input (Holding files)) budget status count events files after
   pub within : count ≤ budget
   pub spent : status ≡ Spent → count ≡ budget
+  pub out_of_memory : status ≡ OutOfMemory → count ≡ 0
 
 -- what an image does that was run with a budget, where the console tells what it holds and no file can be opened
 pub record RunsClosed (image : Picture) (budget : ℕ) (before after : Outside) (status : Status) (count : ℕ) : Type 0 where
@@ -50,3 +51,4 @@ pub record RunsClosed (image : Picture) (budget : ℕ) (before after : Outside) 
       HasSomeOf (Some events) after.events (events_of (machine_run image input Closed count).world.trace)
   pub within : count ≤ budget
   pub spent : status ≡ Spent → count ≡ budget
+  pub out_of_memory : status ≡ OutOfMemory → count ≡ 0

@@ -1,5 +1,5 @@
 -- What a source comes to, a step on the way to what a command answers.
-use Rattle.std.specs.Prelude.{◌≡◌, ◌≢◌, ◌⊎◌, ℕ, ◌≤◌, Bool, true, false, List, Some, None}
+use Rattle.std.specs.Prelude.{◌≡◌, ◌≢◌, ◌⊎◌, ℕ, ◌≤◌, true, false, List, Some, None}
 use Rattle.tu_outside.specs.Causes.{Rose}
 use Rattle.rv_image.specs.Picture.{Picture}
 use Rattle.rv_host.specs.declared.host.HostEnd.{HostEnd}
@@ -8,12 +8,12 @@ use Rattle.tu_meaning.specs.Tree.{Statement}
 use Rattle.tu_run.specs.Source.{IsBuilt, IsAccepted}
 use Rattle.tu_run.specs.Outside.{Outside}
 use Rattle.tu_run.specs.Ran.{RunsImage, verdict_shown}
-use Rattle.tu_run.specs.Answer.{Exactly, IsCompiled, IsUntouched, Completes, yields_to}
+use Rattle.tu_run.specs.Answer.{Exactly, IsCompiled, IsUntouched, Completes, yields_to, is_of_run}
 use Rattle.tu_run.specs.declared.report.TypeError.TheVariants.{NotBuilt}
 use Rattle.tu_run.specs.declared.report.Refusal.TheVariants.{Types}
 use Rattle.tu_run.specs.declared.report.Report.{Report}
 use Rattle.tu_run.specs.declared.report.Status.{Status}
-use Rattle.tu_run.specs.declared.report.Status.TheVariants.{Ended, Stopped, Refused, Usage, NoFile, BadImage, Spent, ConsoleFault, CabinetFault, NoteFault, OutOfMemory, MachineFault}
+use Rattle.tu_run.specs.declared.report.Status.TheVariants.{Ended, Stopped, Refused, Spent, ConsoleFault, CabinetFault, OutOfMemory, MachineFault}
 
 -- the status that tells how the host ended
 abbrev pub status_of : HostEnd → Status
@@ -25,25 +25,11 @@ status_of host_console_fault = ConsoleFault
 status_of host_cabinet_fault = CabinetFault
 status_of host_memory = OutOfMemory
 
--- a status that a run may come to
-abbrev pub is_of_run : Status → Bool
-is_of_run Ended = true
-is_of_run (Stopped kind line) = true
-is_of_run (Refused refusal) = false
-is_of_run Usage = false
-is_of_run NoFile = false
-is_of_run (BadImage error) = false
-is_of_run Spent = true
-is_of_run ConsoleFault = true
-is_of_run CabinetFault = false
-is_of_run NoteFault = false
-is_of_run OutOfMemory = true
-is_of_run (MachineFault kind pc) = true
-
 -- what a source comes to that was fetched
 pub record RunsSource (source : List ℕ) (budget : ℕ) (before after : Outside) (report : Report) : Type 0 where
   pub not_built : Exactly (Refused (Types (NotBuilt 1))) report.status (IsAccepted source → ⊥)
   pub kind : (is_of_run report.status ≡ true) ⊎ (report.status ≡ Refused (Types (NotBuilt 1)))
+  pub none_made : report.status ≡ Refused (Types (NotBuilt 1)) → report.image ≡ None
   pub has_image : IsAccepted source → yields_to report.status ≡ false → report.image ≢ None
   pub compiled : (image : Picture) → report.image ≡ Some image → IsCompiled source image
   pub image_runs : (image : Picture) → report.image ≡ Some image → RunsImage image budget before after report.status report.instructions

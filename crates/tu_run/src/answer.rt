@@ -4,9 +4,9 @@ ghost use Rattle.std.specs.List.{All};
 ghost use Rattle.tu_outside.specs.Causes.{Rose};
 ghost use Rattle.tu_run.specs.Outcome.{output_of, finish_of};
 ghost use Rattle.tu_run.specs.Runs.{IsOutput, picture_of};
-ghost use Rattle.tu_run.specs.Answer.{Answers};
+ghost use Rattle.tu_run.specs.Answer.{Answers, is_of_run};
 ghost use Rattle.tu_run.specs.Ran.{RunsClosed};
-ghost use Rattle.tu_run.specs.Sourced.{RunsSource, status_of, is_of_run};
+ghost use Rattle.tu_run.specs.Sourced.{RunsSource, status_of};
 
 use crate::command::run_file;
 use crate::emitter::emit;
