@@ -1,4 +1,7 @@
-pub mod Consoles
-pub mod ClosedFiles
+pub mod SlotLemmas
+pub mod Keeping
+pub mod Telling
+pub mod StreamServices
 pub mod Asking
+pub mod Closed
 pub mod Turns

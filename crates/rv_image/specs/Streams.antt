@@ -1,5 +1,5 @@
 -- The services of a host: a console, and files by streams.
-use Rattle.std.specs.Prelude.{ℕ, zero, suc, ◌+◌, ◌-◌, Bool, false, ◌==◌, nat_le, ◌&&◌, ◌||◌, not, if◌then◌else◌, List, [], ◌∷◌, ◌++◌, length, map, replicate, Option, Some, None, slice_get, slice_set}
+use Rattle.std.specs.Prelude.{ℕ, zero, suc, ◌+◌, ◌-◌, Bool, true, false, ◌==◌, nat_le, ◌&&◌, ◌||◌, not, if◌then◌else◌, List, [], ◌∷◌, ◌++◌, length, map, replicate, Option, Some, None, slice_get, slice_set}
 use Rattle.std.specs.List.{list_all, list_any}
 use Rattle.std.specs.Char.{is_ascii_alphanumeric}
 use Rattle.std.specs.Ordering.{nat_cmp, eq_by_cmp}
@@ -22,14 +22,16 @@ pub data Stream : Type 0 where
   Reading : (name left : List ℕ) → Stream
   Writing : (name contents : List ℕ) → Stream
 
--- the input still to come, what was done so far, and the streams from 1 to 10
+-- the input still to come, what was done so far, the streams from 1 to 10, and whether the program has asked to open one, as a host takes no
+-- memory before that
 pub record World : Type 0 where
   pub left : List ℕ
   pub trace : Trace
   pub streams : List Stream
+  pub opened : Bool
 
 abbrev pub start_world : List ℕ → World
-start_world input = record { left = input; trace = []; streams = replicate 10 Free }
+start_world input = record { left = input; trace = []; streams = replicate 10 Free; opened = false }
 
 -- how a program is over: at its end, or stopped by the exception of this number at a line
 pub data Over : Type 0 where
@@ -137,7 +139,7 @@ served folder m End w = Finishes AtItsEnd (traced w (kept w.streams))
 served folder m (Stop kind line) w = Finishes (StoppedBy kind line) (traced w (kept w.streams))
 served folder m (PutConsole at size) w = Replies 0 (traced w (map Put (bytes_at m at size)))
 served folder m GetConsole w = got w w.left
-served folder m (Open at size mode) w = opens folder w (bytes_at m at size) mode
+served folder m (Open at size mode) w = opens folder (record w { opened = true }) (bytes_at m at size) mode
 served folder m (Close i) w = closes w i (stream w i)
 served folder m (PutStream i at size) w = puts w i (bytes_at m at size) (stream w i)
 served folder m (GetStream i) w = gets w i (stream w i)

@@ -6,7 +6,7 @@ pub mod ReadingPrograms
 pub mod ValueSteps
 pub mod ValueLoop
 pub mod ValueOutput
-pub mod Pairs
+pub mod Budgets
 pub mod Lengths
 pub mod Places
 pub mod Output
@@ -17,5 +17,10 @@ pub mod Whole
 pub mod Agreeing
 pub mod Answering
 pub mod Sources
-pub mod Fetched
+pub mod Making
+pub mod Commands
+pub mod Words
+pub mod Options
+pub mod Verdicts
+pub mod Meant
 mod Rows

@@ -12,7 +12,7 @@ use Rattle.rv_isa.specs.declared.service.Service.{Service}
 use Rattle.rv_isa.specs.declared.service.Service.TheVariants.{End, Stop, PutConsole}
 use Rattle.rv_isa.specs.Memory.{Memory}
 use Rattle.rv_isa.specs.Step.{Cpu, Space, Registers, with_any, Goes, Asks, step, lends, asked, asks}
-use Rattle.rv_image.specs.Streams.{Folder, Closed, World, Free, AtItsEnd, StoppedBy, Finishes, Replies, served, traced, bytes_at}
+use Rattle.rv_image.specs.Streams.{Folder, World, Free, AtItsEnd, StoppedBy, Finishes, Replies, served, traced, bytes_at}
 use Rattle.rv_image.specs.Run.{MachineVerdict}
 use Rattle.tu_run.specs.declared.emitter.Finish.{Finish}
 use Rattle.tu_run.specs.declared.emitter.Finish.TheVariants.{Ended, Stopped}
@@ -94,12 +94,11 @@ puts folder s P j g m pc at size bytes ops w last x p z ha hs can lies code f =
     (replied folder s P j (cpu g3 m pc5) (cpu g3 m (pc5 + 4)) w (traced w (map Put bytes)) (PutConsole at size) 0 last x p
     (ecall s g3 m pc5 (PutConsole at size) (asked_put s g3 at size refl refl refl can) code.1.1.1.1.1.0)
     (ap (λ b. Replies 0 (traced w (map Put b))) lies)
-    (ap (λ b. Replies 0 (traced w (map Put b))) lies)
     (f (with_any g3 10 0) z code.1.1.1.1.1.1))))
 
 -- with no stream in use nothing is kept at the end
 abbrev pub world : List ℕ → Trace → World
-world input trace = record { left = input; trace = trace; streams = replicate 10 Free }
+world input trace = record { left = input; trace = trace; streams = replicate 10 Free; opened = false }
 
 served_end : (folder : Folder) (m : Memory) (input : List ℕ) (trace : Trace) → served folder m End (world input trace) ≡ Finishes AtItsEnd (world input trace)
 served_end folder m input trace = ap (λ t. Finishes AtItsEnd (world input t)) (append-nil trace)
@@ -117,8 +116,7 @@ ends folder s P g m pc Ended input trace p z l code =
     small folder s P 1 g m pc 17 0 w (verdict_of_finish Ended) w p refl z (omega arith) code.0
     (finishes folder s P (cpu g1 m (pc + 4)) (cpu g1 m (pc + 4 + 4)) w End AtItsEnd w p
     (ecall s g1 m (pc + 4) End (asked_end s g1 refl) code.1.0)
-    (served_end folder m input trace)
-    (served_end Closed m input trace))
+    (served_end folder m input trace))
 ends folder s P g m pc (Stopped kind line) input trace p z l code =
     let w = world input trace in
     let k = kind_number kind in
@@ -132,5 +130,4 @@ ends folder s P g m pc (Stopped kind line) input trace p z l code =
     (small folder s P 1 g2 m (pc + 4 + 4 + 4) 17 1 w (verdict_of_finish (Stopped kind line)) w p refl z (omega arith) code.1.1.1.0
     (finishes folder s P (cpu g3 m pc4) (cpu g3 m (pc4 + 4)) w (Stop k line) (StoppedBy k line) w p
     (ecall s g3 m pc4 (Stop k line) (asked_stop s g3 k line refl refl refl (kind_allowed kind)) code.1.1.1.1.0)
-    (served_stop folder m k line input trace)
-    (served_stop Closed m k line input trace))))
+    (served_stop folder m k line input trace))))

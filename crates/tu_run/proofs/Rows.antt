@@ -1,5 +1,5 @@
 -- Worked rows of the definitions, with the words that an assembler writes.
-use Rattle.std.proofs.Common.{◌≡◌, ℕ, List, [], ◌∷◌, map, replicate, refl}
+use Rattle.std.proofs.Common.{◌≡◌, ℕ, List, [], ◌∷◌, map, replicate, refl, false}
 use Rattle.tu_base.specs.Trace.{Put}
 use Rattle.tu_base.specs.declared.kind.Kind.TheVariants.{Divide}
 use Rattle.rv_isa.specs.Encoding.{decoding}
@@ -23,6 +23,6 @@ writes = refl
 stops : emitted [] (Stopped Divide 4095) ≡ 0x00200513 ∷ (0x000015b7 ∷ (0xfff58593 ∷ (0x00100893 ∷ (0x00000073 ∷ []))))
 stops = refl
 
-runs : machine_run (picture_of seven Ended) [] Closed 8 ≡ record { verdict = verdict_ended; count = 8; world = record { left = []; trace = map Put seven; streams = replicate 10 Free } }
+runs : machine_run (picture_of seven Ended) [] Closed 8 ≡ record { verdict = verdict_ended; count = 8; world = record { left = []; trace = map Put seven; streams = replicate 10 Free; opened = false } }
 unfolding run step decoding start_memory with_any no_registers
 runs = refl

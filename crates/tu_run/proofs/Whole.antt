@@ -6,7 +6,7 @@ use Rattle.rv_image.specs.Start.{start_space, start_cpu, start_memory, start_reg
 use Rattle.rv_image.specs.Streams.{Folder, start_world, bytes_at}
 use Rattle.tu_run.specs.declared.emitter.Finish.{Finish}
 use Rattle.tu_run.specs.Emitted.{codes_of, finish_code, code_of, packed, emitted}
-use Rattle.tu_run.specs.Runs.{IsOutput, picture_of, instruction_count, verdict_of_finish, puts_of, IsBeforeOrAfter, WritesAndFinishes, GoesOnBefore, SameWhenClosed}
+use Rattle.tu_run.specs.Runs.{IsOutput, picture_of, instruction_count, verdict_of_finish, puts_of, IsBeforeOrAfter, WritesAndFinishes, GoesOnBefore}
 use Rattle.tu_run.proofs.Lengths.{length-codes_of, length-finish_code}
 use Rattle.tu_run.proofs.Places.{Stands, stands}
 use Rattle.tu_run.proofs.Output.{packed_lies}
@@ -71,6 +71,3 @@ goes_on_before bytes finish input folder n h l =
     let p = picture_of bytes finish in
     with_fewer folder (start_space p) (IsBeforeOrAfter bytes input) (instruction_count bytes finish) (start_cpu p) (start_world input)
     (verdict_of_finish finish) (world input (puts_of bytes)) n (whole bytes finish input folder h) l
-
-pub same_when_closed : SameWhenClosed
-same_when_closed bytes finish input folder n h = (whole bytes finish input folder h).closed n 0

@@ -1,20 +1,28 @@
 -- What a command answers, apart from its note.
-use Rattle.std.specs.Prelude.{◌≡◌, ◌≢◌, ℕ, ◌≤◌, Bool, true, false, List, ◌++◌, length, Some, None}
+use Rattle.std.specs.Prelude.{◌≡◌, ◌≢◌, ℕ, ◌≤◌, Bool, true, false, ◌||◌, List, length, Option, Some, None, Err}
 use Rattle.std.specs.FinMap as map
 use Rattle.tu_base.specs.declared.event.Event.{Event}
 use Rattle.tu_base.specs.declared.event.Verdict.{Verdict}
 use Rattle.tu_base.specs.declared.event.Verdict.TheVariants.{Ended as verdict_ended, Stopped as verdict_stopped, Going as verdict_going}
 use Rattle.tu_base.specs.Files.{Files}
-use Rattle.tu_base.specs.Trace.{events_of, files_of}
+use Rattle.tu_base.specs.Trace.{Trace}
 use Rattle.tu_outside.specs.Causes.{Rose}
-use Rattle.rv_image.specs.Picture.{Picture}
+use Rattle.tu_outside.specs.Files.{with_file}
+use Rattle.rv_image.specs.Picture.{Picture, IsImage, spelling}
+use Rattle.rv_image.specs.Reading.{reading}
+use Rattle.rv_image.specs.Streams.{Holding}
+use Rattle.rv_image.specs.Run.{machine_run}
+use Rattle.rv_image.specs.declared.image.ImageError.{ImageError}
+use Rattle.rv_image.specs.declared.image.ImageError.TheVariants.{Memory}
+use Rattle.rv_host.specs.Told.{ShowsTrace}
 use Rattle.tu_meaning.specs.Tree.{Statement}
-use Rattle.tu_meaning.specs.Meaning.{meaning}
-use Rattle.tu_agree.specs.Agrees.{Agrees, over_folder}
-use Rattle.tu_run.specs.Command.{IsRun, IsUsage}
+use Rattle.tu_meaning.specs.Meaning.{Meant, meaning}
+use Rattle.tu_meaning.specs.Prefix.{IsPrefix}
+use Rattle.tu_agree.specs.Agrees.{Agrees, IsEnough, over_folder}
+use Rattle.tu_run.specs.Command.{IsRun, IsBuild, IsExec, IsUsage}
 use Rattle.tu_run.specs.Source.{IsBuilt, IsAccepted}
 use Rattle.tu_run.specs.Refusal.{IsRefused}
-use Rattle.tu_run.specs.Outside.{Outside}
+use Rattle.tu_run.specs.Outside.{Outside, Tells, HoldsFile, told_of}
 use Rattle.tu_run.specs.Ran.{RunsImage, verdict_shown}
 use Rattle.tu_run.specs.declared.report.Refusal.{Refusal}
 use Rattle.tu_run.specs.declared.report.Report.{Report}
@@ -38,10 +46,28 @@ is_of_run NoFile = false
 is_of_run (BadImage error) = false
 is_of_run Spent = true
 is_of_run ConsoleFault = true
-is_of_run CabinetFault = false
+is_of_run CabinetFault = true
 is_of_run NoteFault = false
 is_of_run OutOfMemory = true
 is_of_run (MachineFault kind pc) = true
+
+-- there is no source, or it is refused
+abbrev pub is_of_source : Status → Bool
+is_of_source (Refused refusal) = true
+is_of_source NoFile = true
+is_of_source other = false
+
+-- there is no image, or it is a bad one
+abbrev pub is_of_image : Status → Bool
+is_of_image (BadImage error) = true
+is_of_image NoFile = true
+is_of_image other = false
+
+-- the cabinet failed, or memory ran out
+abbrev pub is_of_files : Status → Bool
+is_of_files CabinetFault = true
+is_of_files OutOfMemory = true
+is_of_files other = false
 
 -- A status comes only where its cause holds; where it holds, no other comes but one to which it yields.
 pub record Exactly (status reached : Status) (cause : Type 0) : Type 0 where
@@ -54,17 +80,18 @@ status_of_verdict verdict_ended = Ended
 status_of_verdict (verdict_stopped kind line) = Stopped kind line
 status_of_verdict verdict_going = Spent
 
--- Where console and cabinet tell what they hold, the status, the events and the files are those that the program means, within however few turns.
--- With this budget a run is never spent: the image of a list of `put` runs at most 11 instructions.
-pub record Means (program : List Statement) (before after : Outside) (status : Status) (input : List ℕ) (events : List Event) (files : Files) (t : ℕ) : Type 0 where
-  pub verdict : status ≡ status_of_verdict (meaning program input (Some files) t).verdict
-  pub console : after.events ≡ Some (events ++ events_of (meaning program input (Some files) t).trace)
-  pub cabinet : after.files ≡ Some (files_of files (meaning program input (Some files) t).trace)
-
-abbrev pub Completes : (program : List Statement) (before after : Outside) (status : Status) → Type 0
-Completes program before after status =
-    (input : List ℕ) (events : List Event) (files : Files) (t : ℕ) → before.left ≡ Some input → before.events ≡ Some events → before.files ≡ Some files →
-    yields_to status ≡ false → Means program before after status input events files t
+-- What a run leaves at console and cabinet, and its status, are what is meant within as many turns as the budget has instructions. It is spent
+-- only where that needs more units than the budget is enough for, and has then done a first part of it that holds back nothing.
+pub record LeavesMeant (meant : ℕ → Meant) (budget : ℕ) (status : Status) (events : List Event) (files : Files) (after : Outside) : Type 0 where
+  -- all that was done
+  pub done : Trace
+  pub shows : ShowsTrace events files done (told_of after)
+  pub whole : status ≢ Spent → (done ≡ (meant budget).trace) × (status ≡ status_of_verdict (meant budget).verdict)
+  pub first_part : IsPrefix done (meant budget).trace
+  pub spent : status ≡ Spent → (t : ℕ) → IsEnough budget (meant t).units → (meant t).verdict ≡ verdict_going
+  pub nothing_held_back : (t : ℕ) → IsEnough budget (meant t).units → IsPrefix (meant t).trace done
+  -- no giving up: where it is over within units that the budget is enough for, the run is over with the same trace and verdict
+  pub completes : (t : ℕ) → IsEnough budget (meant t).units → (meant t).verdict ≢ verdict_going → (done ≡ (meant t).trace) × (status ≡ status_of_verdict (meant t).verdict)
 
 -- the image agrees with the program that the source is
 pub record IsCompiled (source : List ℕ) (image : Picture) : Type 0 where
@@ -80,34 +107,74 @@ pub record IsUntouched (before after : Outside) (count : ℕ) : Type 0 where
   pub files : after.files ≡ before.files
   pub none : count ≡ 0
 
--- FILE of the words holds this source
-pub record Holds (words : List (List ℕ)) (before : Outside) (source : List ℕ) : Type 0 where
-  pub files : Files
-  pub file : List ℕ
-  pub told : before.files ≡ Some files
-  pub named : IsRun words file
-  pub found : map.get files file ≡ Some source
-
-pub record Answers (words : List (List ℕ)) (budget : ℕ) (before after : Outside) (report : Report) : Type 0 where
-  -- Usage comes exactly for words that are no command, and yields to nothing
-  pub usage : report.status ≡ Usage → IsUsage words
-  pub is_usage : IsUsage words → report.status ≡ Usage
-  -- what comes before a run, each exactly from its cause
-  pub no_file : (files : Files) (file : List ℕ) → before.files ≡ Some files → IsRun words file → Exactly NoFile report.status (map.get files file ≡ None)
-  pub refused : (source : List ℕ) (refusal : Refusal) → Holds words before source → Exactly (Refused refusal) report.status (IsRefused source refusal)
+-- What the source in FILE comes to, for `run` and `build`.
+pub record AnswersSource (file : List ℕ) (before : Outside) (report : Report) : Type 0 where
+  pub no_file : (files : Files) → before.files ≡ Some files → Exactly NoFile report.status (map.get files file ≡ None)
+  pub refused : (source : List ℕ) (refusal : Refusal) → HoldsFile before.files file source → Exactly (Refused refusal) report.status (IsRefused source refusal)
   -- An image agrees with the source, which is then accepted. There is one for each accepted source, unless the answer is one to which all yield.
-  pub compiled : (source : List ℕ) (image : Picture) → Holds words before source → report.image ≡ Some image → IsCompiled source image
-  pub has_image : (source : List ℕ) → Holds words before source → IsAccepted source → yields_to report.status ≡ false → report.image ≢ None
-  -- With a status to which no run comes, as after a refusal, no image was made.
+  pub image_agrees : (source : List ℕ) (image : Picture) → HoldsFile before.files file source → report.image ≡ Some image → IsCompiled source image
+  pub has_image : (source : List ℕ) → HoldsFile before.files file source → IsAccepted source → yields_to report.status ≡ false → report.image ≢ None
+
+-- `run FILE [budget=N]`
+pub record AnswersRun (file : List ℕ) (budget : ℕ) (before after : Outside) (report : Report) : Type 0 where
+  pub kind : (is_of_run report.status || is_of_source report.status) ≡ true
+  pub source : AnswersSource file before report
+  pub run_of_image : (image : Picture) → report.image ≡ Some image → RunsImage image budget before after report.status report.instructions
+  -- what the program means is left
+  pub leaves : (source : List ℕ) (program : List Statement) → HoldsFile before.files file source → length source ≤ 1048576 → IsBuilt source program →
+      (input : List ℕ) (events : List Event) (files : Files) → Tells before input events files → yields_to report.status ≡ false →
+      LeavesMeant (meaning program input (Some files)) budget report.status events files after
+
+-- an image was made, and its bytes were kept as a file
+pub record KeepsImage (image : List ℕ) (before after : Outside) (made : Option Picture) : Type 0 where
+  pub picture : Picture
+  pub is : made ≡ Some picture
+  pub kept : after.files ≡ with_file before.files image (spelling picture)
+
+-- `build FILE IMAGE`
+pub record AnswersBuild (file image : List ℕ) (before after : Outside) (report : Report) : Type 0 where
+  pub kind : report.status ≢ Ended → (is_of_source report.status || is_of_files report.status) ≡ true
+  pub source : AnswersSource file before report
+  pub ended : (source : List ℕ) → HoldsFile before.files file source → Exactly Ended report.status (IsAccepted source)
+  pub build_keeps_image : report.status ≡ Ended → KeepsImage image before after report.image
+  pub unchanged : report.status ≢ Ended → after.files ≡ before.files
+  -- nothing runs
+  pub left : after.left ≡ before.left
+  pub events : after.events ≡ before.events
+  pub none : report.instructions ≡ 0
+
+-- `exec IMAGE [budget=N]`
+pub record AnswersExec (image : List ℕ) (budget : ℕ) (before after : Outside) (report : Report) : Type 0 where
+  pub kind : (is_of_run report.status || is_of_image report.status) ≡ true
+  pub no_file : (files : Files) → before.files ≡ Some files → Exactly NoFile report.status (map.get files image ≡ None)
+  -- the first condition that fails, and never want of memory
+  pub bad_image : (bytes : List ℕ) (error : ImageError) → HoldsFile before.files image bytes → error ≢ Memory → Exactly (BadImage error) report.status (reading bytes ≡ Err error)
+  pub no_memory : report.status ≢ BadImage Memory
+  -- The image is the one that the bytes are. There is one where they are one, unless the answer is one to which all yield.
+  pub image_is_read : (bytes : List ℕ) (picture : Picture) → HoldsFile before.files image bytes → report.image ≡ Some picture → IsImage bytes picture
+  pub has_image : (bytes : List ℕ) (picture : Picture) → HoldsFile before.files image bytes → IsImage bytes picture → yields_to report.status ≡ false → report.image ≡ Some picture
+  pub exec_runs_image : (picture : Picture) → report.image ≡ Some picture → RunsImage picture budget before after report.status report.instructions
+  -- no giving up: the status shows the run's verdict
+  pub completes : (bytes : List ℕ) (picture : Picture) → HoldsFile before.files image bytes → IsImage bytes picture →
+      (input : List ℕ) (events : List Event) (files : Files) → Tells before input events files → yields_to report.status ≡ false →
+      verdict_shown report.status ≡ Some (machine_run picture input (Holding files) budget).verdict
+
+-- What holds of each command.
+pub record AnswersAny (before after : Outside) (report : Report) : Type 0 where
+  -- With a status to which no run comes, as after a refusal, no image was made. Without an image nothing was done, and no verdict is shown.
   pub none_made : is_of_run report.status ≡ false → report.image ≡ None
-  -- the run of the image, and that there is none without an image
-  pub image_runs : (image : Picture) → report.image ≡ Some image → RunsImage image budget before after report.status report.instructions
   pub untouched : report.image ≡ None → IsUntouched before after report.instructions
   pub image_shows : report.image ≡ None → verdict_shown report.status ≡ None
-  pub files : after.files ≡ before.files
-  -- no giving up: the status shows how the program ends, unless it is one to which all yield
-  pub completes : (source : List ℕ) (program : List Statement) → Holds words before source → length source ≤ 1048576 → IsBuilt source program → Completes program before after report.status
   -- faults come only where a count rose
   pub console_fault : report.status ≡ ConsoleFault → Rose before.console_faults after.console_faults
   pub cabinet_fault : report.status ≡ CabinetFault → Rose before.cabinet_faults after.cabinet_faults
   pub later : (before.console_faults ≤ after.console_faults) × (before.cabinet_faults ≤ after.cabinet_faults)
+
+pub record Answers (words : List (List ℕ)) (before after : Outside) (report : Report) : Type 0 where
+  -- Usage comes exactly for words that are no command, and yields to nothing
+  pub usage : report.status ≡ Usage → IsUsage words
+  pub is_usage : IsUsage words → report.status ≡ Usage
+  pub run : (file : List ℕ) (budget : ℕ) → IsRun words file budget → AnswersRun file budget before after report
+  pub build : (file image : List ℕ) → IsBuild words file image → AnswersBuild file image before after report
+  pub exec : (image : List ℕ) (budget : ℕ) → IsExec words image budget → AnswersExec image budget before after report
+  pub any : AnswersAny before after report

@@ -8,8 +8,9 @@ pub mod Emitted
 pub mod Runs
 pub mod Refusal
 pub mod Command
+pub mod Commands
 pub mod Note
 pub mod Outside
 pub mod Ran
 pub mod Answer
-pub mod Sourced
+pub mod Made

@@ -61,23 +61,23 @@ hexadecimal n =
     hexadecimal_digit (n / 268435456 % 16) ∷ (hexadecimal_digit (n / 16777216 % 16) ∷ (hexadecimal_digit (n / 1048576 % 16) ∷ (hexadecimal_digit (n / 65536 % 16) ∷ (
     hexadecimal_digit (n / 4096 % 16) ∷ (hexadecimal_digit (n / 256 % 16) ∷ (hexadecimal_digit (n / 16 % 16) ∷ (hexadecimal_digit (n % 16) ∷ [])))))))
 
--- the lines that a status adds, where the run had this budget: one, or none
+-- the lines that a status adds, where so many instructions were counted: one, or none
 abbrev pub note_lines : ℕ → Status → List (List ℕ)
-note_lines budget Ended = []
-note_lines budget (Stopped kind line) = at_line line (kind_name kind) ∷ []
-note_lines budget (Refused refusal) = refusal_text refusal ∷ []
-note_lines budget Usage = codes "usage: turing run FILE" ∷ []
-note_lines budget NoFile = codes "no such file" ∷ []
-note_lines budget (BadImage error) = (codes "bad image: " ++ error_name error) ∷ []
-note_lines budget Spent = (codes "spent after " ++ (decimal budget ++ codes " instructions")) ∷ []
-note_lines budget ConsoleFault = codes "console failed" ∷ []
-note_lines budget CabinetFault = codes "file failed" ∷ []
-note_lines budget NoteFault = []
-note_lines budget OutOfMemory = codes "out of memory" ∷ []
-note_lines budget (MachineFault kind pc) = (codes "machine: " ++ (fault_name kind ++ (codes " at 0x" ++ hexadecimal pc))) ∷ []
+note_lines count Ended = []
+note_lines count (Stopped kind line) = at_line line (kind_name kind) ∷ []
+note_lines count (Refused refusal) = refusal_text refusal ∷ []
+note_lines count Usage = codes "usage: turing run FILE [budget=N] | build FILE IMAGE | exec IMAGE [budget=N]" ∷ []
+note_lines count NoFile = codes "no such file" ∷ []
+note_lines count (BadImage error) = (codes "bad image: " ++ error_name error) ∷ []
+note_lines count Spent = (codes "spent after " ++ (decimal count ++ codes " instructions")) ∷ []
+note_lines count ConsoleFault = codes "console failed" ∷ []
+note_lines count CabinetFault = codes "file failed" ∷ []
+note_lines count NoteFault = []
+note_lines count OutOfMemory = codes "out of memory" ∷ []
+note_lines count (MachineFault kind pc) = (codes "machine: " ++ (fault_name kind ++ (codes " at 0x" ++ hexadecimal pc))) ∷ []
 
 -- The status that is shown is the one that was reached, with its note and no other line, or NoteFault where that note could not be written.
-pub record IsShown (budget : ℕ) (reached shown : Status) (lines lines' : Option (List (List ℕ))) (faults faults' : ℕ) : Type 0 where
+pub record IsShown (count : ℕ) (reached shown : Status) (lines lines' : Option (List (List ℕ))) (faults faults' : ℕ) : Type 0 where
   pub reached_no_fault : reached ≢ NoteFault
-  pub note_tells_status : shown ≢ NoteFault → (shown ≡ reached) × (lines' ≡ with_more lines (note_lines budget reached))
-  pub note_fault : shown ≡ NoteFault → (note_lines budget reached ≢ []) × (lines' ≡ lines) × Rose faults faults'
+  pub note_tells_status : shown ≢ NoteFault → (shown ≡ reached) × (lines' ≡ with_more lines (note_lines count reached))
+  pub note_fault : shown ≡ NoteFault → (note_lines count reached ≢ []) × (lines' ≡ lines) × Rose faults faults'

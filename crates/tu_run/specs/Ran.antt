@@ -1,15 +1,14 @@
 -- What the run of an image leaves.
-use Rattle.std.specs.Prelude.{◌≡◌, ℕ, ◌≤◌, List, Option, Some, None}
+use Rattle.std.specs.Prelude.{◌≡◌, ℕ, ◌≤◌, false, List, Option, Some, None}
 use Rattle.tu_base.specs.declared.event.Event.{Event}
 use Rattle.tu_base.specs.Kind.{kind_number}
 use Rattle.tu_base.specs.Files.{Files}
-use Rattle.tu_base.specs.Trace.{events_of, files_of}
-use Rattle.tu_outside.specs.Told.{HasSomeOf}
 use Rattle.rv_image.specs.Picture.{Picture}
-use Rattle.rv_image.specs.Streams.{Closed, Holding}
+use Rattle.rv_image.specs.Streams.{Holding}
 use Rattle.rv_image.specs.Run.{MachineVerdict, Ended as machine_ended, Stopped as machine_stopped, Fault as machine_fault, Going as machine_going, Ran, machine_run}
+use Rattle.rv_host.specs.Told.{ShowsPart}
 use Rattle.rv_host.specs.Host.{IsWhole}
-use Rattle.tu_run.specs.Outside.{Outside}
+use Rattle.tu_run.specs.Outside.{Outside, Tells, told_of}
 use Rattle.tu_run.specs.declared.report.Status.{Status}
 use Rattle.tu_run.specs.declared.report.Status.TheVariants.{Ended, Stopped, Refused, Usage, NoFile, BadImage, Spent, ConsoleFault, CabinetFault, NoteFault, OutOfMemory, MachineFault}
 
@@ -29,26 +28,16 @@ verdict_shown OutOfMemory = None
 verdict_shown (MachineFault kind pc) = Some (machine_fault kind pc)
 
 -- The events added, the input left, the files, the count and the status are those of the run at the budget. Where it was broken off, a first part
--- of the events of the run at the instructions counted was added.
+-- of the trace of the run at the instructions counted stands. Memory runs out before the first instruction, or where the program has asked to
+-- open a file.
 pub record Runs (ran : ℕ → Ran) (budget : ℕ) (status : Status) (count : ℕ) (events : List Event) (files : Files) (after : Outside) : Type 0 where
-  pub run_of_image : (verdict : MachineVerdict) → verdict_shown status ≡ Some verdict → IsWhole (ran budget) verdict count events after.left after.events
-  pub files_of_image : (verdict : MachineVerdict) → verdict_shown status ≡ Some verdict → after.files ≡ Some (files_of files (ran budget).world.trace)
-  pub fault_leaves_prefix : verdict_shown status ≡ None → HasSomeOf (Some events) after.events (events_of (ran count).world.trace) × (after.files ≡ Some files)
+  pub run_of_image : (verdict : MachineVerdict) → verdict_shown status ≡ Some verdict → IsWhole (ran budget) verdict count events files (told_of after)
+  pub fault_leaves_prefix : verdict_shown status ≡ None → ShowsPart events files (ran count).world.trace (told_of after)
+  pub out_of_memory : status ≡ OutOfMemory → (ran count).world.opened ≡ false → count ≡ 0
 
--- What an image does that was run with a budget, where console and cabinet tell what they hold.
+-- What an image does that is run with a budget, where console and cabinet tell what they hold.
 pub record RunsImage (image : Picture) (budget : ℕ) (before after : Outside) (status : Status) (count : ℕ) : Type 0 where
-  pub told : (input : List ℕ) (events : List Event) (files : Files) → before.left ≡ Some input → before.events ≡ Some events → before.files ≡ Some files →
+  pub told : (input : List ℕ) (events : List Event) (files : Files) → Tells before input events files →
       Runs (machine_run image input (Holding files)) budget status count events files after
   pub within : count ≤ budget
   pub spent : status ≡ Spent → count ≡ budget
-  pub out_of_memory : status ≡ OutOfMemory → count ≡ 0
-
--- what an image does that was run with a budget, where the console tells what it holds and no file can be opened
-pub record RunsClosed (image : Picture) (budget : ℕ) (before after : Outside) (status : Status) (count : ℕ) : Type 0 where
-  pub whole : (input : List ℕ) (events : List Event) → before.left ≡ Some input → before.events ≡ Some events → (verdict : MachineVerdict) → verdict_shown status ≡ Some verdict →
-      IsWhole (machine_run image input Closed budget) verdict count events after.left after.events
-  pub broken : (input : List ℕ) (events : List Event) → before.left ≡ Some input → before.events ≡ Some events → verdict_shown status ≡ None →
-      HasSomeOf (Some events) after.events (events_of (machine_run image input Closed count).world.trace)
-  pub within : count ≤ budget
-  pub spent : status ≡ Spent → count ≡ budget
-  pub out_of_memory : status ≡ OutOfMemory → count ≡ 0

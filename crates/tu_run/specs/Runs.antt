@@ -1,10 +1,10 @@
 -- What an image that writes given bytes does when it runs.
-use Rattle.std.specs.Prelude.{◌≡◌, ◌⊎◌, ℕ, ◌<◌, ◌≤◌, List, [], length, map, replicate}
+use Rattle.std.specs.Prelude.{◌≡◌, ◌⊎◌, ℕ, ◌<◌, ◌≤◌, false, List, [], length, map, replicate}
 use Rattle.std.specs.List.{All}
 use Rattle.tu_base.specs.Kind.{kind_number}
 use Rattle.tu_base.specs.Trace.{Put, Trace}
 use Rattle.rv_image.specs.Picture.{Picture}
-use Rattle.rv_image.specs.Streams.{Folder, Closed, World, Free}
+use Rattle.rv_image.specs.Streams.{Folder, World, Free}
 use Rattle.rv_image.specs.Run.{MachineVerdict, Ended as verdict_ended, Stopped as verdict_stopped, Going, Ran, machine_run}
 use Rattle.tu_meaning.specs.Meaning.{Meant}
 use Rattle.tu_meaning.specs.Laws.{Meaning}
@@ -38,7 +38,7 @@ abbrev pub whole_run : List ℕ → Finish → List ℕ → Ran
 whole_run bytes finish input = record {
   verdict = verdict_of_finish finish;
   count = instruction_count bytes finish;
-  world = record { left = input; trace = puts_of bytes; streams = replicate 10 Free };
+  world = record { left = input; trace = puts_of bytes; streams = replicate 10 Free; opened = false };
 }
 
 -- nothing is written yet, or all of it
@@ -63,12 +63,6 @@ abbrev pub GoesOnBefore : Type 0
 GoesOnBefore =
     (bytes : List ℕ) (finish : Finish) (input : List ℕ) (folder : Folder) (n : ℕ) → IsOutput bytes finish →
     n < instruction_count bytes finish → IsUnderway (IsBeforeOrAfter bytes input) n (machine_run (picture_of bytes finish) input folder n)
-
--- nothing is opened, so it is the same run where nothing can be
-abbrev pub SameWhenClosed : Type 0
-SameWhenClosed =
-    (bytes : List ℕ) (finish : Finish) (input : List ℕ) (folder : Folder) (n : ℕ) → IsOutput bytes finish →
-    machine_run (picture_of bytes finish) input folder n ≡ machine_run (picture_of bytes finish) input Closed n
 
 -- Whatever the input, the files and the turns are, it puts these bytes, and finishes so.
 pub record PutsAll (meant : Meant) (bytes : List ℕ) (finish : Finish) : Type 0 where

@@ -1,7 +1,7 @@
 ghost use Rattle.tu_run.specs.Outcome.{OutcomeIsMeant};
 ghost use Rattle.std.specs.Prelude.{ℕ, List, ◌≤◌};
 ghost use Rattle.tu_run.specs.declared.emitter.Finish.{Finish};
-ghost use Rattle.tu_run.specs.Runs.{instruction_count, WritesAndFinishes, GoesOnBefore, SameWhenClosed, EmittedAgrees};
+ghost use Rattle.tu_run.specs.Runs.{instruction_count, WritesAndFinishes, GoesOnBefore, EmittedAgrees};
 
 /// The image that `emit` makes writes its bytes to the console and nothing else, and then ends or
 /// stops as was asked, whatever the input and the files are. Until its last instruction it goes on,
@@ -9,7 +9,6 @@ ghost use Rattle.tu_run.specs.Runs.{instruction_count, WritesAndFinishes, GoesOn
 pub fn emitted_runs()
     ensures ends { WritesAndFinishes }
     ensures goes { GoesOnBefore }
-    ensures closed { SameWhenClosed }
     ensures few { (bytes : List ℕ) (finish : Finish) → instruction_count bytes finish ≤ 11 }
 {}
 

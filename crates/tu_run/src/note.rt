@@ -13,6 +13,8 @@ use tu_outside::Notes;
 
 const ROOM: usize = 96;
 
+const USAGE: &str = "usage: turing run FILE [budget=N] | build FILE IMAGE | exec IMAGE [budget=N]";
+
 fn put(text: &mut ArrayString<ROOM>, more: &str)
     requires { length text.old.bytes + length more.now ≤ 96 }
     ensures { text.new.bytes ≡ text.old.bytes ++ more.now }
@@ -114,13 +116,13 @@ fn put_fault(text: &mut ArrayString<ROOM>, kind: FaultKind, pc: u32)
 }
 
 // `spent after N instructions`
-fn put_spent(text: &mut ArrayString<ROOM>, budget: u64)
+fn put_spent(text: &mut ArrayString<ROOM>, count: u64)
     requires { text.old.bytes ≡ [] }
-    ensures { text.new.bytes ≡ codes "spent after " ++ (decimal budget ++ codes " instructions") }
+    ensures { text.new.bytes ≡ codes "spent after " ++ (decimal count ++ codes " instructions") }
 {
     let mut buffer = Buffer::new();
     put(text, "spent after ");
-    put(text, buffer.format(budget));
+    put(text, buffer.format(count));
     put(text, " instructions");
 }
 
@@ -133,10 +135,10 @@ fn put_bad_image(text: &mut ArrayString<ROOM>, error: ImageError)
 }
 
 // Puts the note of a status into an empty text, where it has one.
-fn put_note(text: &mut ArrayString<ROOM>, budget: u64, status: Status) -> bool
+fn put_note(text: &mut ArrayString<ROOM>, count: u64, status: Status) -> bool
     requires { text.old.bytes ≡ [] }
-    ensures some { result ≡ true → note_lines budget status ≡ text.new.bytes ∷ [] }
-    ensures none { result ≡ false → note_lines budget status ≡ [] }
+    ensures some { result ≡ true → note_lines count status ≡ text.new.bytes ∷ [] }
+    ensures none { result ≡ false → note_lines count status ≡ [] }
 {
     match status {
         Status::Ended | Status::NoteFault => return false,
@@ -145,10 +147,10 @@ fn put_note(text: &mut ArrayString<ROOM>, budget: u64, status: Status) -> bool
         Status::Refused(Refusal::Types(TypeError::NotBuilt(line))) => {
             put_line(text, line, "Types NotBuilt")
         }
-        Status::Usage => put(text, "usage: turing run FILE"),
+        Status::Usage => put(text, USAGE),
         Status::NoFile => put(text, "no such file"),
         Status::BadImage(error) => put_bad_image(text, error),
-        Status::Spent => put_spent(text, budget),
+        Status::Spent => put_spent(text, count),
         Status::ConsoleFault => put(text, "console failed"),
         Status::CabinetFault => put(text, "file failed"),
         Status::OutOfMemory => put(text, "out of memory"),
@@ -157,14 +159,15 @@ fn put_note(text: &mut ArrayString<ROOM>, budget: u64, status: Status) -> bool
     true
 }
 
-/// Writes the note of a status, where the run had this budget, and says which status is shown.
-pub fn noted<S: Notes>(budget: u64, status: Status, notes: &mut S) -> Status
+/// Writes the note of a status, where so many instructions were counted, and says which status is
+/// shown.
+pub fn noted<S: Notes>(count: u64, status: Status, notes: &mut S) -> Status
     requires { status ≢ Status.NoteFault }
-    ensures shown { IsShown budget status result (S.lines notes.old) (S.lines notes.new) (S.faults notes.old) (S.faults notes.new) }
+    ensures shown { IsShown count status result (S.lines notes.old) (S.lines notes.new) (S.faults notes.old) (S.faults notes.new) }
     ensures later { S.faults notes.old ≤ S.faults notes.new }
 {
     let mut text = ArrayString::new();
-    if !put_note(&mut text, budget, status) {
+    if !put_note(&mut text, count, status) {
         return status;
     }
     match notes.line(text.as_str().as_bytes()) {

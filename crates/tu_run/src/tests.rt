@@ -1,17 +1,24 @@
+mod commands;
+mod images;
+mod words;
+
 use crate::{Refusal, Report, Status, TypeError, turing};
-use rv_image::Image;
-use rv_isa::{ImmediateOp, Instr, RegisterOp, Relation, StoreKind, Text, decode, encode};
 use std::alloc::Global;
 use std::test::Fail;
-use tu_base::{Bytes, Event, Kind, Line, Memory, Numbers, Words};
+use tu_base::{Bytes, Event, Kind, Memory, Numbers, Words};
 use tu_outside::{Cabinet, CabinetError, MemoryCabinet, MemoryConsole, MemoryNotes};
 
 const NOT_BUILT: Status = Status::Refused(Refusal::Types(TypeError::NotBuilt(1)));
 
-fn overflow(line: Line) -> Status {
-    let kind = Kind::Overflow;
-    Status::Stopped { kind, line }
-}
+const OVERFLOW: Status = Status::Stopped {
+    kind: Kind::Overflow,
+    line: 1,
+};
+
+const OVERFLOW_AT_3: Status = Status::Stopped {
+    kind: Kind::Overflow,
+    line: 3,
+};
 
 // The devices of one call.
 #[derive(Drop)]
@@ -60,18 +67,23 @@ fn make_outside(alloc: Global, source: &[u8], plan: Plan) -> Result<Outside, Cab
     })
 }
 
-fn call(alloc: Global, words: &[&str], outside: &mut Outside) -> Result<Report, Memory> {
-    let mut list = Words::make(alloc);
-    for word in words {
-        list.add(Bytes::from_slice(alloc, word.as_bytes())?)?;
-    }
-    Ok(turing(
+fn call(alloc: Global, words: &Words, outside: &mut Outside) -> Report {
+    turing(
         alloc,
-        &list,
+        words,
         &mut outside.console,
         &mut outside.cabinet,
         &mut outside.notes,
-    ))
+    )
+}
+
+// A command of words with one blank between two of them.
+fn command(alloc: Global, line: &str, outside: &mut Outside) -> Result<Report, Memory> {
+    let mut words = Words::make(alloc);
+    for word in line.split(' ') {
+        words.add(Bytes::from_slice(alloc, word.as_bytes())?)?;
+    }
+    Ok(call(alloc, &words, outside))
 }
 
 fn has_written(console: &MemoryConsole, output: &[u8]) -> bool {
@@ -92,38 +104,35 @@ fn has_noted(alloc: Global, notes: &MemoryNotes, note: &str) -> Result<bool, Mem
     Ok(notes.same(&lines))
 }
 
+// A source, and its status, output and note.
+const SOURCES: [(&[u8], Status, &[u8], &str); 14] = [
+    (b"put 1 + 2 * 3\n", Status::Ended, b"7\n", ""),
+    (b"put 2 - 3 * 4 - 5", Status::Ended, b"-15\n", ""),
+    (b"\r\n\tput\n007*2", Status::Ended, b"14\n", ""),
+    (b"put 1 put 2", Status::Ended, b"1\n2\n", ""),
+    (b"put 2147483647", Status::Ended, b"2147483647\n", ""),
+    (b"put 0 - 2147483647", Status::Ended, b"-2147483647\n", ""),
+    (b"", Status::Ended, b"", ""),
+    (b"put 2147483647 + 1", OVERFLOW, b"", "line 1: Overflow"),
+    (
+        b"put 5\n\nput 2147483647 * 2\nput 6\n",
+        OVERFLOW_AT_3,
+        b"5\n",
+        "line 3: Overflow",
+    ),
+    (b"put 2147483648", NOT_BUILT, b"", "line 1: Types NotBuilt"),
+    (b"put 1put 2", NOT_BUILT, b"", "line 1: Types NotBuilt"),
+    (b"put1", NOT_BUILT, b"", "line 1: Types NotBuilt"),
+    (b"put 1 +", NOT_BUILT, b"", "line 1: Types NotBuilt"),
+    (b"put -1", NOT_BUILT, b"", "line 1: Types NotBuilt"),
+];
+
 #[test]
 fn sources_are_run_or_refused(rt: HostRuntime) -> Result<(), Fail> {
     let alloc = rt.alloc();
-    let largest = vec![in alloc; b' '; 1_048_576]?;
-    let larger = vec![in alloc; b' '; 1_048_577]?;
-    let three = b"put 5\n\nput 2147483647 * 2\nput 6\n";
-    let rows: [(&[u8], Status, &[u8], &str); 16] = [
-        (b"put 1 + 2 * 3\n", Status::Ended, b"7\n", ""),
-        (b"put 2 - 3 * 4 - 5", Status::Ended, b"-15\n", ""),
-        (b"\r\n\tput\n007*2", Status::Ended, b"14\n", ""),
-        (b"put 1 put 2", Status::Ended, b"1\n2\n", ""),
-        (b"put 2147483647", Status::Ended, b"2147483647\n", ""),
-        (b"put 0 - 2147483647", Status::Ended, b"-2147483647\n", ""),
-        (b"", Status::Ended, b"", ""),
-        (&largest, Status::Ended, b"", ""),
-        (b"put 2147483647 + 1", overflow(1), b"", "line 1: Overflow"),
-        (three, overflow(3), b"5\n", "line 3: Overflow"),
-        (b"put 2147483648", NOT_BUILT, b"", "line 1: Types NotBuilt"),
-        (b"put 1put 2", NOT_BUILT, b"", "line 1: Types NotBuilt"),
-        (b"put1", NOT_BUILT, b"", "line 1: Types NotBuilt"),
-        (b"put 1 +", NOT_BUILT, b"", "line 1: Types NotBuilt"),
-        (b"put -1", NOT_BUILT, b"", "line 1: Types NotBuilt"),
-        (
-            &larger,
-            Status::Refused(Refusal::Size),
-            b"",
-            "refused: Size",
-        ),
-    ];
-    for (source, status, output, note) in rows {
+    for (source, status, output, note) in SOURCES {
         let mut outside = make_outside(alloc, source, AMPLE)?;
-        let report = call(alloc, ["run", "a.t"].as_slice(), &mut outside)?;
+        let report = command(alloc, "run a.t", &mut outside)?;
         assert_eq!(rt; report.status, status);
         assert!(rt; has_written(&outside.console, output));
         assert!(rt; has_noted(alloc, &outside.notes, note)?);
@@ -132,153 +141,89 @@ fn sources_are_run_or_refused(rt: HostRuntime) -> Result<(), Fail> {
 }
 
 #[test]
-fn words_and_files_are_looked_for(rt: HostRuntime) -> Result<(), Fail> {
+fn the_largest_source(rt: HostRuntime) -> Result<(), Fail> {
     let alloc = rt.alloc();
-    let usage = "usage: turing run FILE";
-    let rows: [(&[&str], Status, &str); 6] = [
-        (&[], Status::Usage, usage),
-        (&["run"], Status::Usage, usage),
-        (&["run", ""], Status::Usage, usage),
-        (&["walk", "a.t"], Status::Usage, usage),
-        (&["run", "a.t", "a.t"], Status::Usage, usage),
-        (&["run", "none.t"], Status::NoFile, "no such file"),
-    ];
-    for (words, status, note) in rows {
-        let mut outside = make_outside(alloc, b"put 1", AMPLE)?;
-        let report = call(alloc, words, &mut outside)?;
-        assert_eq!(rt; report.status, status);
-        assert_eq!(rt; report.instructions, 0);
-        assert!(rt; has_written(&outside.console, b""));
-        assert!(rt; has_noted(alloc, &outside.notes, note)?);
-    }
+    let larger = vec![in alloc; b' '; 1_048_577]?;
+    let mut outside = make_outside(alloc, &larger[1..], AMPLE)?;
+    let report = command(alloc, "run a.t", &mut outside)?;
+    assert_eq!(rt; report.status, Status::Ended);
+    let mut outside = make_outside(alloc, &larger, AMPLE)?;
+    let report = command(alloc, "run a.t", &mut outside)?;
+    assert_eq!(rt; report.status, Status::Refused(Refusal::Size));
+    assert!(rt; has_noted(alloc, &outside.notes, "refused: Size")?);
     Ok(())
+}
+
+// A call of a device that fails, or a reserve that is short, and then the status, output and note.
+const FAILURES: [(Plan, Status, &[u8], &str); 8] = [
+    (
+        Plan {
+            console: 1,
+            ..AMPLE
+        },
+        Status::ConsoleFault,
+        b"",
+        "console failed",
+    ),
+    (
+        Plan {
+            console: 2,
+            ..AMPLE
+        },
+        OVERFLOW,
+        b"7\n",
+        "line 1: Overflow",
+    ),
+    (
+        Plan { events: 1, ..AMPLE },
+        Status::ConsoleFault,
+        b"",
+        "console failed",
+    ),
+    (
+        Plan {
+            cabinet: 2,
+            ..AMPLE
+        },
+        Status::CabinetFault,
+        b"",
+        "file failed",
+    ),
+    (
+        Plan {
+            cabinet: 3,
+            ..AMPLE
+        },
+        OVERFLOW,
+        b"7\n",
+        "line 1: Overflow",
+    ),
+    (Plan { notes: 1, ..AMPLE }, Status::NoteFault, b"7\n", ""),
+    (
+        Plan { notes: 2, ..AMPLE },
+        OVERFLOW,
+        b"7\n",
+        "line 1: Overflow",
+    ),
+    (Plan { bytes: 16, ..AMPLE }, Status::NoteFault, b"7\n", ""),
+];
+
+fn faults(outside: &Outside) -> u64 {
+    let faults = outside.console.fault_count();
+    let faults = faults.saturating_add(outside.cabinet.fault_count());
+    faults.saturating_add(outside.notes.fault_count())
 }
 
 #[test]
 fn devices_fail_in_turn(rt: HostRuntime) -> Result<(), Fail> {
     let alloc = rt.alloc();
-    let source = b"put 7 put 2147483647 + 1";
-    let stopped = "line 1: Overflow";
-    let rows: [(Plan, Status, &[u8], &str); 8] = [
-        (
-            Plan {
-                console: 1,
-                ..AMPLE
-            },
-            Status::ConsoleFault,
-            b"",
-            "console failed",
-        ),
-        (
-            Plan {
-                console: 2,
-                ..AMPLE
-            },
-            overflow(1),
-            b"7\n",
-            stopped,
-        ),
-        (
-            Plan { events: 1, ..AMPLE },
-            Status::ConsoleFault,
-            b"",
-            "console failed",
-        ),
-        (
-            Plan {
-                cabinet: 2,
-                ..AMPLE
-            },
-            Status::CabinetFault,
-            b"",
-            "file failed",
-        ),
-        (
-            Plan {
-                cabinet: 3,
-                ..AMPLE
-            },
-            overflow(1),
-            b"7\n",
-            stopped,
-        ),
-        (Plan { notes: 1, ..AMPLE }, Status::NoteFault, b"7\n", ""),
-        (Plan { notes: 2, ..AMPLE }, overflow(1), b"7\n", stopped),
-        (Plan { bytes: 16, ..AMPLE }, Status::NoteFault, b"7\n", ""),
-    ];
-    for (plan, status, output, note) in rows {
-        let mut outside = make_outside(alloc, source, plan)?;
-        let report = call(alloc, ["run", "a.t"].as_slice(), &mut outside)?;
-        let console = outside.console.fault_count();
-        let cabinet = outside.cabinet.fault_count();
-        let faults = console.saturating_add(cabinet);
-        let faults = faults.saturating_add(outside.notes.fault_count());
+    for (plan, status, output, note) in FAILURES {
+        let mut outside = make_outside(alloc, b"put 7 put 2147483647 + 1", plan)?;
+        let report = command(alloc, "run a.t", &mut outside)?;
         assert_eq!(rt; report.status, status);
         assert!(rt; has_written(&outside.console, output));
         assert!(rt; has_noted(alloc, &outside.notes, note)?);
-        assert_eq!(rt; faults, (status != overflow(1)) as u64);
+        assert_eq!(rt; faults(&outside), (status != OVERFLOW) as u64);
     }
-    Ok(())
-}
-
-fn on_registers(op: RegisterOp) -> Instr {
-    Instr::Register {
-        op,
-        rd: 3,
-        rs1: 1,
-        rs2: 2,
-    }
-}
-
-#[test]
-fn instructions_have_their_words(rt: HostRuntime) -> Result<(), Fail> {
-    let alloc = rt.alloc();
-    let (op, kind, relation) = (ImmediateOp::Addi, StoreKind::Word, Relation::Equal);
-    let (rs1, rs2, offset) = (1, 2, 8);
-    let (rd, value) = (1, 5);
-    let addi = Instr::Immediate {
-        op,
-        rd,
-        rs1: 0,
-        value,
-    };
-    let sw = Instr::Store {
-        kind,
-        rs1,
-        rs2,
-        offset,
-    };
-    let beq = Instr::Branch {
-        relation,
-        rs1,
-        rs2,
-        offset,
-    };
-    let rows = [
-        (addi, 0x0050_0093, [0x93, 0, 0x50, 0]),
-        (
-            on_registers(RegisterOp::Add),
-            0x0020_81b3,
-            [0xb3, 0x81, 0x20, 0],
-        ),
-        (
-            on_registers(RegisterOp::Mul),
-            0x0220_81b3,
-            [0xb3, 0x81, 0x20, 2],
-        ),
-        (sw, 0x0020_a423, [0x23, 0xa4, 0x20, 0]),
-        (beq, 0x0020_8463, [0x63, 0x84, 0x20, 0]),
-        (Instr::Jal { rd, offset: 16 }, 0x0100_00ef, [0xef, 0, 0, 1]),
-    ];
-    for (op, word, bytes) in rows {
-        assert_eq!(rt; decode(word), Some(op));
-        assert!(rt; op.fits());
-        assert_eq!(rt; encode(op), word);
-        let image = Image::make(Text::from_slice(alloc, &[word])?, 0, 0).bytes(alloc)?;
-        assert_eq!(rt; image.len(), 24);
-        assert_eq!(rt; &image.as_slice()[20..], bytes.as_slice());
-    }
-    assert_eq!(rt; decode(0), None);
-    assert_eq!(rt; decode(0x0420_81b3), None);
     Ok(())
 }

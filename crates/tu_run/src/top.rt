@@ -11,9 +11,6 @@ use std::alloc::Global;
 use tu_base::Words;
 use tu_outside::{Cabinet, Console, Notes};
 
-/// In instructions.
-const BUDGET: u64 = 10_000_000_000;
-
 /// Does what the words say, writes one note of how it went, and reports it.
 ///
 /// A status is reached first, with its clauses in `Answers`. It is the one that is shown, unless its note fails.
@@ -25,14 +22,14 @@ pub fn turing<C: Console, K: Cabinet, S: Notes>(
     notes: &mut S,
 ) -> Report
     ensures { (reached : Status)
-        × Answers words.now 10000000000
+        × Answers words.now
         (record { left = C.left console.old; events = C.events console.old; files = K.files cabinet.old; console_faults = C.faults console.old; cabinet_faults = K.faults cabinet.old })
         (record { left = C.left console.new; events = C.events console.new; files = K.files cabinet.new; console_faults = C.faults console.new; cabinet_faults = K.faults cabinet.new })
         (record result { status = reached })
-        × IsShown 10000000000 reached result.status (S.lines notes.old) (S.lines notes.new) (S.faults notes.old) (S.faults notes.new)
+        × IsShown result.instructions reached result.status (S.lines notes.old) (S.lines notes.new) (S.faults notes.old) (S.faults notes.new)
         × (S.faults notes.old ≤ S.faults notes.new) }
 {
-    let mut report = answer(alloc, words, console, cabinet, BUDGET);
-    report.status = noted(BUDGET, report.status, notes);
+    let mut report = answer(alloc, words, console, cabinet);
+    report.status = noted(report.instructions, report.status, notes);
     report
 }

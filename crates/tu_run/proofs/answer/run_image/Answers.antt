@@ -3,5 +3,5 @@ use Rattle.tu_run.proofs.answer.run_image.Goals as goal
 
 pub returns-clause-runs : goal.returns-clause-runs
 returns-clause-runs g c =
-    rw c.count.ensures (image_ran c.in-Ok.machine c.args.image c.args.budget c.run-end.new.machine.count c.run-end.result c.shown.result _ _
-    c.in-Ok.ensures.space c.in-Ok.ensures.cpu c.shown.ensures c.run-end.ensures.leaves c.run-end.ensures.within c.run-end.ensures.spent c.run-end.ensures.no_memory)
+    rw c.count.ensures (image_ran c.in-Ok.machine c.args.image c.args.budget c.run-end.new.machine.count c.run-end.result c.run_status.result _ _
+    c.in-Ok.ensures.space c.in-Ok.ensures.cpu c.run_status.ensures c.run-end.ensures.leaves c.run-end.ensures.within c.run-end.ensures.spent)

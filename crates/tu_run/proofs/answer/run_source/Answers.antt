@@ -1,23 +1,18 @@
-use Rattle.tu_run.proofs.Sources.{at_some, none_answers, run_answers}
+use Rattle.std.proofs.Common.{Err, ap, refl}
+use Rattle.tu_run.proofs.Commands.{run_answers, run_failed, nothing_done, fails_shows}
 use Rattle.tu_run.proofs.answer.run_source.Goals as goal
 
-pub returns-in-Ok-None : goal.returns-in-Ok-None
-returns-in-Ok-None g c = rw c.plain.ensures (none_answers c.args.source.now c.args.budget _ (rw (c.in-Ok-None.field-0-is, c.as_slice.ensures) at c.in-Ok-None.ensures.built))
+pub returns-in-Ok-clause-run : goal.returns-in-Ok-clause-run
+returns-in-Ok-clause-run g c =
+    run_answers c.meaning_is_run.ensures c.verdict_is_final.ensures c.args.file.now c.args.budget _ _ c.run_image.result c.in-Ok.image
+    (g.K.Cabinet.files c.made_image.new.cabinet) (g.K.Cabinet.faults c.made_image.new.cabinet)
+    c.in-Ok.ensures.makes c.made_image.ensures.files c.run_image.ensures.image c.run_image.ensures.status c.run_image.ensures.runs
 
-pub returns-in-Ok : goal.returns-in-Ok
-returns-in-Ok g c =
-    run_answers c.args.source.now c.in-Ok-Some.program.items c.in-Ok.image c.args.budget _ _ c.run_image.result (record {
-      size = c.requires.size;
-      enough = c.requires.budget;
-      built = rw c.as_slice.ensures at (at_some _ _ _ _ c.in-Ok-Some.field-0-is c.in-Ok-Some.ensures.built);
-      only = rw c.as_slice.ensures at (at_some _ _ _ _ c.in-Ok-Some.field-0-is c.in-Ok-Some.ensures.only);
-      made = rw c.deref.ensures.value at c.in-Ok.ensures.image;
-      output = rw c.deref.ensures.value at c.in-Ok.ensures.output;
-      image = c.run_image.ensures.image;
-      status = c.run_image.ensures.status;
-      runs = c.run_image.ensures.runs;
-      files = c.run_image.ensures.files;
-      cabinet = c.run_image.ensures.cabinet;
-      console_fault = c.run_image.ensures.console_fault;
-      later = c.run_image.ensures.later;
-    })
+pub returns-in-Err-clause-run : goal.returns-in-Err-clause-run
+returns-in-Err-clause-run g c = rw c.plain.ensures (run_failed c.args.file.now c.args.budget _ _ c.in-Err.status c.in-Err.ensures.makes)
+
+pub returns-in-Err-clause-any : goal.returns-in-Err-clause-any
+returns-in-Err-clause-any g c =
+    let shows = fails_shows c.in-Err.status (c.in-Err.ensures.makes.kind c.in-Err.status refl) in
+    rw c.plain.ensures (nothing_done _ c.in-Err.status (g.K.Cabinet.files c.made_image.new.cabinet) (g.K.Cabinet.faults c.made_image.new.cabinet)
+    c.made_image.ensures.files c.made_image.ensures.later shows.0 shows.1 (λ e. c.in-Err.ensures.fault (ap Err e)))

@@ -1,0 +1,276 @@
+-- What each command answers, put together from what it did.
+use Rattle.std.proofs.Common.{◌≡◌, ◌≢◌, ℕ, ◌≤◌, Bool, true, false, ◌||◌, ◌⊎◌, inl, inr, List, Ok, Err, refl, ap, sym, ◌∙◌, subst, arith}
+use Rattle.std.specs.Prelude.{Option, Some, None}
+use Rattle.tu_base.specs.Files.{Files}
+use Rattle.tu_base.specs.declared.event.Event.{Event}
+use Rattle.tu_outside.specs.Causes.{Rose}
+use Rattle.tu_outside.specs.Files.{with_file}
+use Rattle.rv_image.specs.Picture.{Picture, spelling}
+use Rattle.rv_image.specs.Streams.{Holding}
+use Rattle.rv_image.specs.Run.{machine_run}
+use Rattle.tu_meaning.specs.Tree.{Statement}
+use Rattle.tu_meaning.specs.Meaning.{meaning}
+use Rattle.tu_meaning.specs.Laws.{IsFinal}
+use Rattle.tu_agree.specs.Laws.{MeaningIsRun}
+use Rattle.tu_run.specs.declared.report.Report.{Report}
+use Rattle.tu_run.specs.declared.report.Status.{Status}
+use Rattle.tu_run.specs.declared.report.Status.TheVariants.{Ended, Stopped, Refused, Usage, NoFile, BadImage, Spent, ConsoleFault, CabinetFault, NoteFault, OutOfMemory, MachineFault}
+use Rattle.tu_run.specs.Outside.{Outside, Tells}
+use Rattle.tu_run.specs.Ran.{RunsImage, verdict_shown}
+use Rattle.tu_run.specs.Answer.{Exactly, AnswersSource, AnswersRun, AnswersBuild, AnswersExec, AnswersAny, is_of_run, is_of_source, is_of_image, is_of_files, yields_to}
+use Rattle.tu_run.specs.Made.{MakesImage, ReadsImage}
+use Rattle.tu_run.proofs.Verdicts.{shown_by}
+use Rattle.tu_run.proofs.Meant.{leaves_meant}
+
+or_left : (a b : Bool) → a ≡ true → (a || b) ≡ true
+or_left true b e = refl
+or_left false b e = absurd (cc e)
+
+or_right : (a b : Bool) → b ≡ true → (a || b) ≡ true
+or_right true b e = refl
+or_right false b e = e
+
+-- the same cause for another status that is not looked for
+apart : (status reached : Status) (cause : Type 0) → is_of_run status ≡ false → is_of_run reached ≡ true → Exactly status Ended cause → Exactly status reached cause
+apart status reached cause off on e = record {
+  only = λ same. absurd (let f : is_of_run reached ≡ is_of_run status = ap is_of_run same in cc (on, off, f));
+  always = λ holds y. absurd (let same : Ended ≡ status = e.always holds refl in let f : is_of_run Ended ≡ is_of_run status = ap is_of_run same in cc (off, f));
+}
+
+-- the outside behind a fetch
+abbrev pub behind_fetch : Outside → Option Files → ℕ → Outside
+behind_fetch before files faults = record { left = before.left; events = before.events; files = files; console_faults = before.console_faults; cabinet_faults = faults }
+
+-- the same of the outside before the fetch
+runs_before : (image : Picture) (budget : ℕ) (before after : Outside) (status : Status) (count : ℕ) (files : Option Files) (faults : ℕ) → files ≡ before.files → RunsImage image budget (behind_fetch before files faults) after status count →
+    RunsImage image budget before after status count
+runs_before image budget before after status count files faults same r = record {
+  told = λ input events known t. r.told input events known (record { left = t.left; done = t.done; kept = same ∙ t.kept });
+  within = r.within;
+  spent = r.spent;
+}
+
+run_or_source : (status : Status) → (is_of_source status || is_of_files status) ≡ true → (is_of_run status || is_of_source status) ≡ true
+run_or_source Ended e = refl
+run_or_source (Stopped kind line) e = refl
+run_or_source (Refused refusal) e = refl
+run_or_source Usage e = absurd (cc e)
+run_or_source NoFile e = refl
+run_or_source (BadImage error) e = absurd (cc e)
+run_or_source Spent e = refl
+run_or_source ConsoleFault e = refl
+run_or_source CabinetFault e = refl
+run_or_source NoteFault e = absurd (cc e)
+run_or_source OutOfMemory e = refl
+run_or_source (MachineFault kind pc) e = refl
+
+run_or_image : (status : Status) → (is_of_image status || is_of_files status) ≡ true → (is_of_run status || is_of_image status) ≡ true
+run_or_image Ended e = refl
+run_or_image (Stopped kind line) e = refl
+run_or_image (Refused refusal) e = absurd (cc e)
+run_or_image Usage e = absurd (cc e)
+run_or_image NoFile e = refl
+run_or_image (BadImage error) e = refl
+run_or_image Spent e = refl
+run_or_image ConsoleFault e = refl
+run_or_image CabinetFault e = refl
+run_or_image NoteFault e = absurd (cc e)
+run_or_image OutOfMemory e = refl
+run_or_image (MachineFault kind pc) e = refl
+
+files_run : (status : Status) → is_of_files status ≡ true → (is_of_run status ≡ true) × (yields_to status ≡ true)
+files_run Ended e = absurd (cc e)
+files_run (Stopped kind line) e = absurd (cc e)
+files_run (Refused refusal) e = absurd (cc e)
+files_run Usage e = absurd (cc e)
+files_run NoFile e = absurd (cc e)
+files_run (BadImage error) e = absurd (cc e)
+files_run Spent e = absurd (cc e)
+files_run ConsoleFault e = absurd (cc e)
+files_run CabinetFault e = (refl, refl)
+files_run NoteFault e = absurd (cc e)
+files_run OutOfMemory e = (refl, refl)
+files_run (MachineFault kind pc) e = absurd (cc e)
+
+fails_not_ended : (status : Status) → (is_of_source status || is_of_files status) ≡ true → status ≡ Ended → ⊥
+fails_not_ended status k e = let f : (is_of_source status || is_of_files status) ≡ false = ap (λ s. is_of_source s || is_of_files s) e in cc (k, f)
+
+-- a status is Ended, or it is not
+is_ended : (status : Status) → (status ≡ Ended) ⊎ (status ≢ Ended)
+is_ended Ended = inl refl
+is_ended (Stopped kind line) = inr (λ e. cc e)
+is_ended (Refused refusal) = inr (λ e. cc e)
+is_ended Usage = inr (λ e. cc e)
+is_ended NoFile = inr (λ e. cc e)
+is_ended (BadImage error) = inr (λ e. cc e)
+is_ended Spent = inr (λ e. cc e)
+is_ended ConsoleFault = inr (λ e. cc e)
+is_ended CabinetFault = inr (λ e. cc e)
+is_ended NoteFault = inr (λ e. cc e)
+is_ended OutOfMemory = inr (λ e. cc e)
+is_ended (MachineFault kind pc) = inr (λ e. cc e)
+
+kept_runs : (status : Status) → (status ≢ Ended → is_of_files status ≡ true) → is_of_run status ≡ true
+kept_runs status kind = elim (is_ended status) [ inl e ↦ ap is_of_run e | inr off ↦ (files_run status (kind off)).0 ]
+
+kept_unless : (status : Status) → (status ≢ Ended → is_of_files status ≡ true) → yields_to status ≡ false → status ≡ Ended
+kept_unless status kind y = elim (is_ended status) [ inl e ↦ e | inr off ↦ absurd (let f = (files_run status (kind off)).1 in cc (f, y)) ]
+
+shown_verdict : (image other : Picture) (budget : ℕ) (before after : Outside) (status : Status) (count : ℕ) (input : List ℕ) (events : List Event) (files : Files) → image ≡ other → is_of_run status ≡ true → yields_to status ≡ false →
+    Tells before input events files → RunsImage image budget before after status count → verdict_shown status ≡ Some (machine_run other input (Holding files) budget).verdict
+shown_verdict image other budget before after status count input events files same on y t r =
+    let s = shown_by status on y in
+    let whole = (r.told input events files t).run_of_image s.verdict s.is in
+    s.is ∙ ap Some (sym whole.ends ∙ ap (λ p. (machine_run p input (Holding files) budget).verdict) same)
+
+-- a report with an image that was made
+pub made_source : (file : List ℕ) (before : Outside) (report : Report) (image : Picture) → MakesImage before.files file (Ok image) → report.image ≡ Some image → is_of_run report.status ≡ true → AnswersSource file before report
+made_source file before report image m is on = record {
+  no_file = λ files known. apart NoFile report.status _ refl on (m.no_file files known);
+  refused = λ source refusal h. apart (Refused refusal) report.status _ refl on (m.refused source refusal h);
+  image_agrees = λ source other h e. let same : image ≡ other = cc (is, e) in m.compiled source other h (ap Ok same);
+  has_image = λ source h a y none. cc (is, none);
+}
+
+-- a report of a source of which no image was made
+pub none_source : (file : List ℕ) (before : Outside) (status : Status) → MakesImage before.files file (Err status) → AnswersSource file before (record { status = status; image = None; instructions = 0 })
+none_source file before status m = record {
+  no_file = m.no_file;
+  refused = m.refused;
+  image_agrees = λ source other h e. absurd (cc e);
+  has_image = λ source h a y none. let yields = m.has_image source h a status refl in cc (yields, y);
+}
+
+pub run_answers : MeaningIsRun → ((program : List Statement) → IsFinal (meaning program)) → (file : List ℕ) (budget : ℕ) (before after : Outside) (report : Report) (image : Picture) (files : Option Files) (faults : ℕ) →
+    MakesImage before.files file (Ok image) → files ≡ before.files → report.image ≡ Some image → is_of_run report.status ≡ true →
+    RunsImage image budget (behind_fetch before files faults) after report.status report.instructions → AnswersRun file budget before after report
+run_answers law final file budget before after report image files faults m same is on r = record {
+  kind = or_left (is_of_run report.status) (is_of_source report.status) on;
+  source = made_source file before report image m is on;
+  run_of_image = λ other e.
+      let eq : image ≡ other = cc (is, e) in
+      subst (λ i. RunsImage i budget before after report.status report.instructions) eq (runs_before image budget before after report.status report.instructions files faults same r);
+  leaves = λ source program h size b input events known t y.
+      let s = shown_by report.status on y in
+      let whole = ((runs_before image budget before after report.status report.instructions files faults same r).told input events known t).run_of_image s.verdict s.is in
+      leaves_meant law (meaning program) (final program) image (m.all source image program h refl b) input known budget report.instructions report.status events after s.verdict s.is whole;
+}
+
+pub run_failed : (file : List ℕ) (budget : ℕ) (before after : Outside) (status : Status) → MakesImage before.files file (Err status) → AnswersRun file budget before after (record { status = status; image = None; instructions = 0 })
+run_failed file budget before after status m =
+    let k = m.kind status refl in
+    record {
+      kind = run_or_source status k;
+      source = none_source file before status m;
+      run_of_image = λ other e. absurd (cc e);
+      leaves = λ source program h size b input events known t y. absurd (let yields = m.has_image source h (size, (program, b)) status refl in cc (yields, y));
+    }
+
+-- nothing was done, and a fetch may have failed
+pub nothing_done : (before : Outside) (status : Status) (files : Option Files) (faults : ℕ) → files ≡ before.files → before.cabinet_faults ≤ faults → verdict_shown status ≡ None → status ≢ ConsoleFault →
+    (status ≡ CabinetFault → Rose before.cabinet_faults faults) → AnswersAny before (behind_fetch before files faults) (record { status = status; image = None; instructions = 0 })
+nothing_done before status files faults same later shows console fault = record {
+  none_made = λ _. refl;
+  untouched = λ _. record { left = refl; events = refl; files = same; none = refl };
+  image_shows = λ _. shows;
+  console_fault = λ e. absurd (console e);
+  cabinet_fault = fault;
+  later = (omega arith, later);
+}
+
+pub fails_shows : (status : Status) → (is_of_source status || is_of_files status) ≡ true → (verdict_shown status ≡ None) × (status ≢ ConsoleFault)
+fails_shows Ended e = absurd (cc e)
+fails_shows (Stopped kind line) e = absurd (cc e)
+fails_shows (Refused refusal) e = (refl, λ q. cc q)
+fails_shows Usage e = absurd (cc e)
+fails_shows NoFile e = (refl, λ q. cc q)
+fails_shows (BadImage error) e = absurd (cc e)
+fails_shows Spent e = absurd (cc e)
+fails_shows ConsoleFault e = absurd (cc e)
+fails_shows CabinetFault e = (refl, λ q. cc q)
+fails_shows NoteFault e = absurd (cc e)
+fails_shows OutOfMemory e = (refl, λ q. cc q)
+fails_shows (MachineFault kind pc) e = absurd (cc e)
+
+pub read_shows : (status : Status) → (is_of_image status || is_of_files status) ≡ true → (verdict_shown status ≡ None) × (status ≢ ConsoleFault)
+read_shows Ended e = absurd (cc e)
+read_shows (Stopped kind line) e = absurd (cc e)
+read_shows (Refused refusal) e = absurd (cc e)
+read_shows Usage e = absurd (cc e)
+read_shows NoFile e = (refl, λ q. cc q)
+read_shows (BadImage error) e = (refl, λ q. cc q)
+read_shows Spent e = absurd (cc e)
+read_shows ConsoleFault e = absurd (cc e)
+read_shows CabinetFault e = (refl, λ q. cc q)
+read_shows NoteFault e = absurd (cc e)
+read_shows OutOfMemory e = (refl, λ q. cc q)
+read_shows (MachineFault kind pc) e = absurd (cc e)
+
+pub exec_answers : (file : List ℕ) (budget : ℕ) (before after : Outside) (report : Report) (image : Picture) (files : Option Files) (faults : ℕ) →
+    ReadsImage before.files file (Ok image) → files ≡ before.files → report.image ≡ Some image → is_of_run report.status ≡ true →
+    RunsImage image budget (behind_fetch before files faults) after report.status report.instructions → AnswersExec file budget before after report
+exec_answers file budget before after report image files faults m same is on r = record {
+  kind = or_left (is_of_run report.status) (is_of_image report.status) on;
+  no_file = λ known e. apart NoFile report.status _ refl on (m.no_file known e);
+  bad_image = λ bytes error h e. apart (BadImage error) report.status _ refl on (m.bad_image bytes error h e);
+  no_memory = λ e. let f : is_of_run report.status ≡ false = ap is_of_run e in cc (on, f);
+  image_is_read = λ bytes other h e. let eq : image ≡ other = cc (is, e) in m.is_read bytes other h (ap Ok eq);
+  has_image = λ bytes other h i y. let eq : Ok image ≡ Ok other = m.has_image bytes other h i refl in let s : image ≡ other = cc eq in is ∙ ap Some s;
+  exec_runs_image = λ other e.
+      let eq : image ≡ other = cc (is, e) in
+      subst (λ i. RunsImage i budget before after report.status report.instructions) eq (runs_before image budget before after report.status report.instructions files faults same r);
+  completes = λ bytes other h i input events known t y.
+      let eq : Ok image ≡ Ok other = m.has_image bytes other h i refl in
+      let s : image ≡ other = cc eq in
+      shown_verdict image other budget before after report.status report.instructions input events known s on y t
+      (runs_before image budget before after report.status report.instructions files faults same r);
+}
+
+pub exec_failed : (file : List ℕ) (budget : ℕ) (before after : Outside) (status : Status) → ReadsImage before.files file (Err status) → AnswersExec file budget before after (record { status = status; image = None; instructions = 0 })
+exec_failed file budget before after status m =
+    let k = m.kind status refl in
+    record {
+      kind = run_or_image status k;
+      no_file = m.no_file;
+      bad_image = m.bad_image;
+      no_memory = λ e. m.no_memory (ap Err e);
+      image_is_read = λ bytes other h e. absurd (cc e);
+      has_image = λ bytes other h i y. absurd (let e : Err status ≡ Ok other = m.has_image bytes other h i y in cc e);
+      exec_runs_image = λ other e. absurd (cc e);
+      completes = λ bytes other h i input events known t y. absurd (let e : Err status ≡ Ok other = m.has_image bytes other h i y in cc e);
+    }
+
+pub build_answers : (file name : List ℕ) (before after : Outside) (report : Report) (image : Picture) → MakesImage before.files file (Ok image) → report.image ≡ Some image → report.instructions ≡ 0 →
+    (report.status ≢ Ended → is_of_files report.status ≡ true) → (report.status ≡ Ended → after.files ≡ with_file before.files name (spelling image)) → (report.status ≢ Ended → after.files ≡ before.files) →
+    after.left ≡ before.left → after.events ≡ before.events → AnswersBuild file name before after report
+build_answers file name before after report image m is none kind kept same left events = record {
+  kind = λ off. or_right (is_of_source report.status) (is_of_files report.status) (kind off);
+  source = made_source file before report image m is (kept_runs report.status kind);
+  ended = λ source h. record {
+    only = λ _. let k = m.compiled source image h refl in (k.size, (k.program, k.built));
+    always = λ _ y. kept_unless report.status kind y;
+  };
+  build_keeps_image = λ e. record { picture = image; is = is; kept = kept e };
+  unchanged = same;
+  left = left;
+  events = events;
+  none = none;
+}
+
+pub build_failed : (file name : List ℕ) (before after : Outside) (status : Status) → MakesImage before.files file (Err status) → after.files ≡ before.files → after.left ≡ before.left → after.events ≡ before.events →
+    AnswersBuild file name before after (record { status = status; image = None; instructions = 0 })
+build_failed file name before after status m same left events =
+    let k = m.kind status refl in
+    record {
+      kind = λ _. k;
+      source = none_source file before status m;
+      ended = λ source h. record {
+        only = λ e. absurd (fails_not_ended status k e);
+        always = λ a y. absurd (let yields = m.has_image source h a status refl in cc (yields, y));
+      };
+      build_keeps_image = λ e. absurd (fails_not_ended status k e);
+      unchanged = λ _. same;
+      left = left;
+      events = events;
+      none = refl;
+    }
