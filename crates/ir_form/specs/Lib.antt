@@ -1,0 +1,12 @@
+pub mod Place
+pub mod Cells
+pub mod State
+pub mod Cost
+pub mod Plain
+pub mod Meaning
+pub mod Units
+pub mod Values
+pub mod Weight
+pub mod Valid
+pub mod Tests
+pub mod Lawful

@@ -1,0 +1,7 @@
+pub mod Linear
+pub mod Units
+pub mod Flat
+pub mod Size
+pub mod Parts
+pub mod Lawful
+pub mod Keeps

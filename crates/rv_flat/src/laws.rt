@@ -1,0 +1,8 @@
+ghost use Rattle.rv_flat.specs.Units.{PaysForRounds};
+ghost use Rattle.rv_flat.specs.declared.linear.Linear.{Linear as LinearCode};
+
+/// The cost of a run is at least the turns and other rounds that have begun.
+#[tactic(auto, using(crate::proofs::Spends::linear_spends))]
+pub fn cost_covers_rounds()
+    ensures { (linear : LinearCode) → PaysForRounds linear }
+{}

@@ -1,0 +1,12 @@
+//! Linear code, and the way from region code to it.
+#![tactic(auto)]
+
+mod copy;
+mod flatten;
+mod laws;
+pub mod linear;
+mod units;
+
+pub use laws::cost_covers_rounds;
+pub use linear::{Instruction, Linear, LinearRoutine, Target};
+pub use units::flat;
