@@ -1,12 +1,12 @@
 -- The meaning of a whole unit of region code.
-use Rattle.std.specs.Prelude.{ℕ, zero, suc, ◌+◌, ◌-◌, ◌*◌, ◌≤◌, List, [], ◌++◌, Option, Some, None, nat_le, if◌then◌else◌, slice_get}
+use Rattle.std.specs.Prelude.{◌≡◌, ℕ, zero, suc, ◌+◌, ◌-◌, ◌*◌, ◌≤◌, ◌⊎◌, List, [], ◌++◌, Option, Some, None, nat_le, if◌then◌else◌, slice_get}
 use Rattle.tu_base.specs.Trace.{Trace}
 use Rattle.rv_image.specs.Streams.{Folder, start_world, kept}
 use Rattle.ir_form.specs.declared.unit.Routine.{Routine}
 use Rattle.ir_form.specs.declared.unit.Unit.{Unit as RegionUnit}
 use Rattle.ir_form.specs.Place.{Place, Setting}
 use Rattle.ir_form.specs.Cells.{Closed, Unset, with_range, start_cells}
-use Rattle.ir_form.specs.State.{Env, State, Verdict, Ended, Stopped, Stuck, How, Next, Left, Ends, Throws, Over, Run, next, raised, over, on_run, needs, words_of, binds, turn_from, begun}
+use Rattle.ir_form.specs.State.{Env, State, Verdict, Ended, Stopped, Going, Stuck, How, Next, Left, Ends, Throws, Over, Run, next, raised, over, on_run, needs, words_of, binds, turn_from, begun}
 use Rattle.ir_form.specs.Plain.{Calls, most_rooms, storage, stack_top}
 use Rattle.ir_form.specs.Meaning.{run_list, ended_run}
 
@@ -119,3 +119,8 @@ meaning u place input folder t s = meant (unit_run u place input folder t s)
 -- The cost of a run is at least the turns and other rounds that have begun.
 abbrev pub PaysForRounds : RegionUnit → Type 0
 PaysForRounds u = (place : Place) (input : List ℕ) (folder : Folder) (t s : ℕ) → begun t s (unit_run u place input folder t s).state ≤ (meaning u place input folder t s).cost
+
+-- A run that needs more than it was given costs as much as there were turns, or other rounds: all of these have begun.
+abbrev pub IsPaidWhereGoing : RegionUnit → Type 0
+IsPaidWhereGoing u = (place : Place) (input : List ℕ) (folder : Folder) (t s : ℕ) →
+    let m = meaning u place input folder t s in m.verdict ≡ Going → (t ≤ m.cost) ⊎ (s ≤ m.cost)

@@ -7,6 +7,6 @@ mod laws;
 pub mod linear;
 mod units;
 
-pub use laws::cost_covers_rounds;
+pub use laws::{cost_covers_rounds, going_is_paid};
 pub use linear::{Instruction, Linear, LinearRoutine, Target};
 pub use units::flat;
