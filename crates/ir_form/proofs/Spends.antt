@@ -17,7 +17,7 @@ use Rattle.ir_form.specs.State.{State, Ended, Stopped, Going, Stuck, How, Next, 
 use Rattle.ir_form.specs.Cost.{plain_price, round_price}
 use Rattle.ir_form.specs.Plain.{Calls, most_rooms, storage, defines, stack_top, with_array, service_of, is_accepted, replied, does, act}
 use Rattle.ir_form.specs.Meaning.{takes_words, hands, gives, Cycle, after_round, rounds, looped, leaves, is_in_any, picks, run, run_all, run_arms, run_list, ended}
-use Rattle.ir_form.specs.Units.{Head, opened, enters_at, restored, returned, called, start, concluded, meant, head_of, body_of, calls_to, calls_within, runs_main, setting_of, unit_run, meaning, IsPaidWhereGoing}
+use Rattle.ir_form.specs.Units.{Head, opened, enters_at, restored, returned, called, start, concluded, head_of, body_of, calls_to, calls_within, runs_main, setting_of, unit_run, meaning, IsPaidWhereGoing}
 
 -- where a run needs more than it was given, no turn or no other round is left
 abbrev pub IsUsedUp : How → State → Type 0

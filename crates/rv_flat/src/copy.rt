@@ -7,6 +7,7 @@ use sqlite_items::Items;
 use std::alloc::Global;
 use tu_base::Memory;
 
+/// A copy of numbers of values. It fails only for want of memory.
 pub fn copied_values(alloc: Global, values: &Items<u32>) -> Result<Items<u32>, Memory>
     ensures { IfOk result (λ copy. copy ≡ values.now) }
 {
@@ -14,6 +15,7 @@ pub fn copied_values(alloc: Global, values: &Items<u32>) -> Result<Items<u32>, M
     Ok(copy)
 }
 
+/// A copy of an operation. It fails only for want of memory.
 pub fn copied_plain(alloc: Global, plain: &Plain) -> Result<Plain, Memory>
     ensures { IfOk result (λ copy. copy ≡ plain.now) }
 {

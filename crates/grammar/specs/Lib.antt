@@ -1,0 +1,11 @@
+pub mod Description
+pub mod Tree
+pub mod Classes
+pub mod Grammar
+pub mod Reading
+pub mod Fault
+pub mod Coded
+pub mod Placed
+pub mod Counted
+pub mod Laws
+pub mod Falls

@@ -1,0 +1,7 @@
+use Rattle.std.proofs.Common.{◌≡◌, take}
+use Rattle.rv_flat.specs.Parts.{linear_numbers}
+use Rattle.rv_alloc.proofs.Slotting.{Slotted}
+use Rattle.rv_alloc.proofs.slots.slotted_routine.Given as goal
+
+abbrev pub invariant-loop-value : goal.invariant-loop-value
+invariant-loop-value l = record { numbers : l.value-items ≡ linear_numbers l.r; slotted : Slotted (take l.value-index l.value-items) l.places }

@@ -1,0 +1,5 @@
+pub mod Places
+pub mod Renamed
+pub mod Assigned
+pub mod Holds
+pub mod Keeps

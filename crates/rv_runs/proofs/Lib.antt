@@ -1,0 +1,4 @@
+pub mod Stretches
+pub mod Comes
+pub mod Places
+pub mod Steps

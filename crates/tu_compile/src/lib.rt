@@ -1,0 +1,16 @@
+//! The compiler as a chain of passes, each of which keeps what a code means.
+#![tactic(auto)]
+
+mod assign;
+mod chain;
+pub mod example;
+mod flat;
+mod laws;
+
+pub use assign::Assign;
+pub use chain::{Chain, placed};
+pub use flat::Flat;
+pub use laws::{
+    fits_where_placed, lawful_assigned_never_faults, lawful_linear_never_faults,
+    lawful_unit_never_faults,
+};
