@@ -1,0 +1,10 @@
+pub mod Scanning
+pub mod Digits
+pub mod Prefix
+pub mod Closing
+pub mod Pieces
+pub mod Fronts
+pub mod Faults
+pub mod Lines
+pub mod Turns
+pub mod Steps

@@ -1,0 +1,6 @@
+use Rattle.tu_tree.specs.Scans.{text_scan}
+use Rattle.tu_lex.proofs.Scanning.{Left}
+use Rattle.tu_lex.proofs.text.text_end.Given as goal
+
+abbrev pub invariant-loop-place : goal.invariant-loop-place
+invariant-loop-place l = Left text_scan l.escaped l.place l.body
