@@ -46,6 +46,15 @@ const AMPLE: Plan = Plan {
     bytes: 1000,
 };
 
+// How a command is to answer, and what it is to write.
+#[derive(Clone, Copy)]
+struct Answer {
+    status: Status,
+    count: u64,
+    output: &'static [u8],
+    note: &'static str,
+}
+
 fn only(alloc: Global, number: u64) -> Result<Numbers, Memory> {
     Numbers::from_slice(alloc, &[number])
 }
@@ -67,23 +76,19 @@ fn make_outside(alloc: Global, source: &[u8], plan: Plan) -> Result<Outside, Cab
     })
 }
 
-fn call(alloc: Global, words: &Words, outside: &mut Outside) -> Report {
-    turing(
-        alloc,
-        words,
-        &mut outside.console,
-        &mut outside.cabinet,
-        &mut outside.notes,
-    )
-}
-
 // A command of words with one blank between two of them.
 fn command(alloc: Global, line: &str, outside: &mut Outside) -> Result<Report, Memory> {
     let mut words = Words::make(alloc);
     for word in line.split(' ') {
         words.add(Bytes::from_slice(alloc, word.as_bytes())?)?;
     }
-    Ok(call(alloc, &words, outside))
+    Ok(turing(
+        alloc,
+        &words,
+        &mut outside.console,
+        &mut outside.cabinet,
+        &mut outside.notes,
+    ))
 }
 
 fn has_written(console: &MemoryConsole, output: &[u8]) -> bool {
@@ -104,38 +109,71 @@ fn has_noted(alloc: Global, notes: &MemoryNotes, note: &str) -> Result<bool, Mem
     Ok(notes.same(&lines))
 }
 
-// A source, and its status, output and note.
-const SOURCES: [(&[u8], Status, &[u8], &str); 14] = [
-    (b"put 1 + 2 * 3\n", Status::Ended, b"7\n", ""),
-    (b"put 2 - 3 * 4 - 5", Status::Ended, b"-15\n", ""),
-    (b"\r\n\tput\n007*2", Status::Ended, b"14\n", ""),
-    (b"put 1 put 2", Status::Ended, b"1\n2\n", ""),
-    (b"put 2147483647", Status::Ended, b"2147483647\n", ""),
-    (b"put 0 - 2147483647", Status::Ended, b"-2147483647\n", ""),
-    (b"", Status::Ended, b"", ""),
-    (b"put 2147483647 + 1", OVERFLOW, b"", "line 1: Overflow"),
+// Whether a command answers so.
+fn is_answered(
+    alloc: Global,
+    line: &str,
+    outside: &mut Outside,
+    answer: Answer,
+) -> Result<bool, Memory> {
+    let report = command(alloc, line, outside)?;
+    let same = report.status == answer.status && report.instructions == answer.count;
+    let noted = has_noted(alloc, &outside.notes, answer.note)?;
+    Ok(same && noted && has_written(&outside.console, answer.output))
+}
+
+// Whether a source in the file `a.t` is answered so.
+fn is_run(alloc: Global, source: &[u8], answer: Answer) -> Result<bool, CabinetError> {
+    let mut outside = make_outside(alloc, source, AMPLE)?;
+    Ok(is_answered(alloc, "run a.t", &mut outside, answer)?)
+}
+
+// A source, and its status, instructions, output and note.
+const SOURCES: [(&[u8], Status, u64, &[u8], &str); 14] = [
+    (b"put 1 + 2 * 3\n", Status::Ended, 8, b"7\n", ""),
+    (b"put 2 - 3 * 4 - 5", Status::Ended, 8, b"-15\n", ""),
+    (b"\r\n\tput\n007*2", Status::Ended, 8, b"14\n", ""),
+    (b"put 1 put 2", Status::Ended, 8, b"1\n2\n", ""),
+    (b"put 2147483647", Status::Ended, 8, b"2147483647\n", ""),
+    (
+        b"put 0 - 2147483647",
+        Status::Ended,
+        8,
+        b"-2147483647\n",
+        "",
+    ),
+    (b"", Status::Ended, 2, b"", ""),
+    (b"put 2147483647 + 1", OVERFLOW, 5, b"", "line 1: Overflow"),
     (
         b"put 5\n\nput 2147483647 * 2\nput 6\n",
         OVERFLOW_AT_3,
+        11,
         b"5\n",
         "line 3: Overflow",
     ),
-    (b"put 2147483648", NOT_BUILT, b"", "line 1: Types NotBuilt"),
-    (b"put 1put 2", NOT_BUILT, b"", "line 1: Types NotBuilt"),
-    (b"put1", NOT_BUILT, b"", "line 1: Types NotBuilt"),
-    (b"put 1 +", NOT_BUILT, b"", "line 1: Types NotBuilt"),
-    (b"put -1", NOT_BUILT, b"", "line 1: Types NotBuilt"),
+    (
+        b"put 2147483648",
+        NOT_BUILT,
+        0,
+        b"",
+        "line 1: Types NotBuilt",
+    ),
+    (b"put 1put 2", NOT_BUILT, 0, b"", "line 1: Types NotBuilt"),
+    (b"put1", NOT_BUILT, 0, b"", "line 1: Types NotBuilt"),
+    (b"put 1 +", NOT_BUILT, 0, b"", "line 1: Types NotBuilt"),
+    (b"put -1", NOT_BUILT, 0, b"", "line 1: Types NotBuilt"),
 ];
 
 #[test]
 fn sources_are_run_or_refused(rt: HostRuntime) -> Result<(), Fail> {
-    let alloc = rt.alloc();
-    for (source, status, output, note) in SOURCES {
-        let mut outside = make_outside(alloc, source, AMPLE)?;
-        let report = command(alloc, "run a.t", &mut outside)?;
-        assert_eq!(rt; report.status, status);
-        assert!(rt; has_written(&outside.console, output));
-        assert!(rt; has_noted(alloc, &outside.notes, note)?);
+    for (source, status, count, output, note) in SOURCES {
+        let answer = Answer {
+            status,
+            count,
+            output,
+            note,
+        };
+        assert!(rt; is_run(rt.alloc(), source, answer)?);
     }
     Ok(())
 }
@@ -144,13 +182,20 @@ fn sources_are_run_or_refused(rt: HostRuntime) -> Result<(), Fail> {
 fn the_largest_source(rt: HostRuntime) -> Result<(), Fail> {
     let alloc = rt.alloc();
     let larger = vec![in alloc; b' '; 1_048_577]?;
-    let mut outside = make_outside(alloc, &larger[1..], AMPLE)?;
-    let report = command(alloc, "run a.t", &mut outside)?;
-    assert_eq!(rt; report.status, Status::Ended);
-    let mut outside = make_outside(alloc, &larger, AMPLE)?;
-    let report = command(alloc, "run a.t", &mut outside)?;
-    assert_eq!(rt; report.status, Status::Refused(Refusal::Size));
-    assert!(rt; has_noted(alloc, &outside.notes, "refused: Size")?);
+    let ended = Answer {
+        status: Status::Ended,
+        count: 2,
+        output: b"",
+        note: "",
+    };
+    let refused = Answer {
+        status: Status::Refused(Refusal::Size),
+        count: 0,
+        output: b"",
+        note: "refused: Size",
+    };
+    assert!(rt; is_run(alloc, &larger[1..], ended)?);
+    assert!(rt; is_run(alloc, &larger, refused)?);
     Ok(())
 }
 
@@ -214,16 +259,27 @@ fn faults(outside: &Outside) -> u64 {
     faults.saturating_add(outside.notes.fault_count())
 }
 
+// Whether it is the status, output and note of a program with an overflow behind a `put`, on devices
+// of which one fails unless the status is that of the program.
+fn fails_so(
+    alloc: Global,
+    plan: Plan,
+    status: Status,
+    output: &[u8],
+    note: &str,
+) -> Result<bool, CabinetError> {
+    let mut outside = make_outside(alloc, b"put 7 put 2147483647 + 1", plan)?;
+    let report = command(alloc, "run a.t", &mut outside)?;
+    let counted = faults(&outside) == (status != OVERFLOW) as u64;
+    let noted = has_noted(alloc, &outside.notes, note)?;
+    let written = has_written(&outside.console, output);
+    Ok(report.status == status && counted && noted && written)
+}
+
 #[test]
 fn devices_fail_in_turn(rt: HostRuntime) -> Result<(), Fail> {
-    let alloc = rt.alloc();
     for (plan, status, output, note) in FAILURES {
-        let mut outside = make_outside(alloc, b"put 7 put 2147483647 + 1", plan)?;
-        let report = command(alloc, "run a.t", &mut outside)?;
-        assert_eq!(rt; report.status, status);
-        assert!(rt; has_written(&outside.console, output));
-        assert!(rt; has_noted(alloc, &outside.notes, note)?);
-        assert_eq!(rt; faults(&outside), (status != OVERFLOW) as u64);
+        assert!(rt; fails_so(rt.alloc(), plan, status, output, note)?);
     }
     Ok(())
 }

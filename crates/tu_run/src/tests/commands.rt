@@ -1,17 +1,23 @@
 // The rows of the command table.
 use super::{
-    AMPLE, NOT_BUILT, OVERFLOW, Plan, call, command, has_noted, has_written, make_outside,
+    AMPLE, Answer, NOT_BUILT, OVERFLOW, Outside, Plan, command, is_answered, make_outside,
 };
 use crate::Status;
 use std::alloc::Global;
 use std::test::Fail;
-use tu_base::{Bytes, Memory, Words};
-use tu_outside::MemoryCabinet;
+use tu_base::{Bytes, Memory};
+use tu_outside::{CabinetError, MemoryCabinet};
 
-const USAGE: &str = "usage: turing run FILE [budget=N] | build FILE IMAGE | exec IMAGE [budget=N]";
+const USAGE: Answer = Answer {
+    status: Status::Usage,
+    count: 0,
+    output: b"",
+    note: "usage: turing run FILE [budget=N] | build FILE IMAGE | exec IMAGE [budget=N]",
+};
 
-// Words with blanks between them, so that two blanks stand round an empty word.
-const NO_COMMANDS: [&str; 17] = [
+// Words with blanks between them, so that a blank at the end stands before an empty word.
+const NO_COMMANDS: [&str; 18] = [
+    "",
     "run",
     "run ",
     "walk a.t",
@@ -34,22 +40,15 @@ const NO_COMMANDS: [&str; 17] = [
 #[test]
 fn words_are_a_command_or_usage(rt: HostRuntime) -> Result<(), Fail> {
     let alloc = rt.alloc();
-    let mut outside = make_outside(alloc, b"put 1", AMPLE)?;
-    let report = call(alloc, &Words::make(alloc), &mut outside);
-    assert_eq!(rt; report.status, Status::Usage);
     for line in NO_COMMANDS {
         let mut outside = make_outside(alloc, b"put 1", AMPLE)?;
-        let report = command(alloc, line, &mut outside)?;
-        assert_eq!(rt; report.status, Status::Usage);
-        assert_eq!(rt; report.instructions, 0);
-        assert!(rt; has_written(&outside.console, b""));
-        assert!(rt; has_noted(alloc, &outside.notes, USAGE)?);
+        assert!(rt; is_answered(alloc, line, &mut outside, USAGE)?);
     }
     Ok(())
 }
 
-// A command, its status, its instructions, its output and its note.
-const BUDGETS: [(&str, Status, u64, &[u8], &str); 5] = [
+// A command on a program that puts 7, and its status, instructions, output and note.
+const COMMANDS: [(&str, Status, u64, &[u8], &str); 8] = [
     (
         "run a.t budget=0",
         Status::Spent,
@@ -85,104 +84,98 @@ const BUDGETS: [(&str, Status, u64, &[u8], &str); 5] = [
         b"7\n",
         "",
     ),
+    ("run none.t", Status::NoFile, 0, b"", "no such file"),
+    ("build none.t a.img", Status::NoFile, 0, b"", "no such file"),
+    ("exec none.img", Status::NoFile, 0, b"", "no such file"),
 ];
 
 #[test]
-fn a_budget_bounds_a_run(rt: HostRuntime) -> Result<(), Fail> {
+fn budgets_and_files_that_are_not_there(rt: HostRuntime) -> Result<(), Fail> {
     let alloc = rt.alloc();
-    for (line, status, count, output, note) in BUDGETS {
+    for (line, status, count, output, note) in COMMANDS {
+        let answer = Answer {
+            status,
+            count,
+            output,
+            note,
+        };
         let mut outside = make_outside(alloc, b"put 1 + 2 * 3\n", AMPLE)?;
-        let report = command(alloc, line, &mut outside)?;
-        assert_eq!(rt; report.status, status);
-        assert_eq!(rt; report.instructions, count);
-        assert!(rt; has_written(&outside.console, output));
-        assert!(rt; has_noted(alloc, &outside.notes, note)?);
+        assert!(rt; is_answered(alloc, line, &mut outside, answer)?);
     }
     Ok(())
 }
 
-const NO_FILES: [&str; 3] = ["run none.t", "build none.t a.img", "exec none.img"];
-
-#[test]
-fn files_that_are_not_there(rt: HostRuntime) -> Result<(), Fail> {
-    let alloc = rt.alloc();
-    for line in NO_FILES {
-        let mut outside = make_outside(alloc, b"put 1", AMPLE)?;
-        let report = command(alloc, line, &mut outside)?;
-        assert_eq!(rt; report.status, Status::NoFile);
-        assert_eq!(rt; report.instructions, 0);
-        assert!(rt; has_noted(alloc, &outside.notes, "no such file")?);
-    }
-    Ok(())
+// Whether the file `a.img` holds these bytes, or, for None, is not there.
+fn has_image(alloc: Global, outside: &Outside, bytes: Option<&[u8]>) -> Result<bool, Memory> {
+    Ok(
+        match (
+            outside.cabinet.file(&Bytes::from_slice(alloc, b"a.img")?),
+            bytes,
+        ) {
+            (Some(found), Some(bytes)) => found.as_slice() == bytes,
+            (None, None) => true,
+            (Some(_), None) => false,
+            (None, Some(_)) => false,
+        },
+    )
 }
 
-fn holds(
-    alloc: Global,
-    cabinet: &MemoryCabinet,
-    name: &[u8],
-    contents: &[u8],
-) -> Result<bool, Memory> {
-    Ok(match cabinet.file(&Bytes::from_slice(alloc, name)?) {
-        Some(found) => found.as_slice() == contents,
-        None => false,
-    })
+// Whether a source is built to an image that is kept, and that then runs so.
+fn is_built(alloc: Global, source: &[u8], answer: Answer) -> Result<bool, CabinetError> {
+    let mut outside = make_outside(alloc, source, AMPLE)?;
+    let built = command(alloc, "build a.t a.img", &mut outside)?;
+    let ended = built.status == Status::Ended && built.instructions == 0;
+    let Some(image) = built.image else {
+        return Ok(false);
+    };
+    let bytes = image.bytes(alloc)?;
+    let kept = has_image(alloc, &outside, Some(bytes.as_slice()))?;
+    let ran = is_answered(alloc, "exec a.img", &mut outside, answer)?;
+    Ok(ended && kept && ran)
 }
 
-fn lacks(alloc: Global, cabinet: &MemoryCabinet, name: &[u8]) -> Result<bool, Memory> {
-    Ok(cabinet.file(&Bytes::from_slice(alloc, name)?).is_none())
-}
-
-// A source, and how its image ends, what it writes, and how many instructions it runs.
-const SOURCES: [(&[u8], Status, &[u8], u64); 2] = [
-    (b"put 1 + 2 * 3\n", Status::Ended, b"7\n", 8),
-    (b"put 5 put 2147483647 + 1", OVERFLOW, b"5\n", 11),
+// A source, and its status, instructions, output and note.
+const SOURCES: [(&[u8], Status, u64, &[u8], &str); 2] = [
+    (b"put 1 + 2 * 3\n", Status::Ended, 8, b"7\n", ""),
+    (
+        b"put 5 put 2147483647 + 1",
+        OVERFLOW,
+        11,
+        b"5\n",
+        "line 1: Overflow",
+    ),
 ];
 
 #[test]
 fn what_is_built_runs_as_the_source_does(rt: HostRuntime) -> Result<(), Fail> {
-    let alloc = rt.alloc();
-    for (source, status, output, count) in SOURCES {
-        let mut outside = make_outside(alloc, source, AMPLE)?;
-        let built = command(alloc, "build a.t a.img", &mut outside)?;
-        assert_eq!(rt; built.status, Status::Ended);
-        assert_eq!(rt; built.instructions, 0);
-        assert!(rt; has_written(&outside.console, b""));
-        let Some(image) = built.image else {
-            panic!(rt; "no image");
+    for (source, status, count, output, note) in SOURCES {
+        let answer = Answer {
+            status,
+            count,
+            output,
+            note,
         };
-        let bytes = image.bytes(alloc)?;
-        assert!(rt; holds(alloc, &outside.cabinet, b"a.img", bytes.as_slice())?);
-        let report = command(alloc, "exec a.img", &mut outside)?;
-        assert_eq!(rt; report.status, status);
-        assert_eq!(rt; report.instructions, count);
-        assert!(rt; has_written(&outside.console, output));
+        assert!(rt; is_built(rt.alloc(), source, answer)?);
     }
     Ok(())
 }
 
-#[test]
-fn nothing_is_built_of_a_refused_source(rt: HostRuntime) -> Result<(), Fail> {
-    let alloc = rt.alloc();
-    let mut outside = make_outside(alloc, b"put 1put 2", AMPLE)?;
-    let report = command(alloc, "build a.t a.img", &mut outside)?;
-    assert_eq!(rt; report.status, NOT_BUILT);
-    assert!(rt; report.image.is_none());
-    assert!(rt; lacks(alloc, &outside.cabinet, b"a.img")?);
-    Ok(())
-}
+// A source, the call of the cabinet that fails, the status, and whether an image was made that was
+// not kept.
+const NOT_KEPT: [(&[u8], u64, Status, bool); 2] = [
+    (b"put 1put 2", 0, NOT_BUILT, false),
+    (b"put 1", 3, Status::CabinetFault, true),
+];
 
 #[test]
-fn an_image_that_is_not_kept(rt: HostRuntime) -> Result<(), Fail> {
+fn images_that_are_not_kept(rt: HostRuntime) -> Result<(), Fail> {
     let alloc = rt.alloc();
-    let plan = Plan {
-        cabinet: 3,
-        ..AMPLE
-    };
-    let mut outside = make_outside(alloc, b"put 1", plan)?;
-    let report = command(alloc, "build a.t a.img", &mut outside)?;
-    assert_eq!(rt; report.status, Status::CabinetFault);
-    assert!(rt; report.image.is_some());
-    assert!(rt; has_noted(alloc, &outside.notes, "file failed")?);
-    assert!(rt; lacks(alloc, &outside.cabinet, b"a.img")?);
+    for (source, cabinet, status, made) in NOT_KEPT {
+        let mut outside = make_outside(alloc, source, Plan { cabinet, ..AMPLE })?;
+        let report = command(alloc, "build a.t a.img", &mut outside)?;
+        assert_eq!(rt; report.status, status);
+        assert_eq!(rt; report.image.is_some(), made);
+        assert!(rt; has_image(alloc, &outside, None)?);
+    }
     Ok(())
 }

@@ -1,6 +1,6 @@
 // Images, good and bad, and what the machine makes of them.
-use super::{AMPLE, Outside, Plan, command, has_noted, has_written, make_outside};
-use crate::{Report, Status};
+use super::{AMPLE, Answer, Outside, Plan, command, is_answered, make_outside};
+use crate::Status;
 use rv_image::ImageError;
 use rv_isa::{FaultKind, ImmediateOp, Instr, StoreKind, encode};
 use std::alloc::Global;
@@ -13,12 +13,19 @@ const LEAST: [u8; 24] = [
     0x54, 0x55, 0x52, 0x49, 1, 0, 0, 0, 1, 0, 0, 0, 0, 0, 0, 0, 0, 0, 0, 0, 0x73, 0, 0, 0,
 ];
 
-// Runs bytes as an image.
-fn exec(alloc: Global, bytes: &[u8], outside: &mut Outside) -> Result<Report, CabinetError> {
+// Keeps bytes as the file `a.img`.
+fn keep(alloc: Global, bytes: &[u8], outside: &mut Outside) -> Result<(), CabinetError> {
     let name = Bytes::from_slice(alloc, b"a.img")?;
-    let contents = Bytes::from_slice(alloc, bytes)?;
-    outside.cabinet.keep(alloc, &name, &contents)?;
-    Ok(command(alloc, "exec a.img", outside)?)
+    outside
+        .cabinet
+        .keep(alloc, &name, &Bytes::from_slice(alloc, bytes)?)
+}
+
+// Whether bytes that are run as an image are answered so.
+fn is_executed(alloc: Global, bytes: &[u8], answer: Answer) -> Result<bool, CabinetError> {
+    let mut outside = make_outside(alloc, b"put 1", AMPLE)?;
+    keep(alloc, bytes, &mut outside)?;
+    Ok(is_answered(alloc, "exec a.img", &mut outside, answer)?)
 }
 
 // The image of a text, without globals and with its entry at 0.
@@ -46,17 +53,23 @@ fn error_note(error: ImageError) -> &'static str {
     }
 }
 
-#[test]
-fn the_least_image_runs(rt: HostRuntime) -> Result<(), Fail> {
-    let alloc = rt.alloc();
-    let mut outside = make_outside(alloc, b"", AMPLE)?;
-    let report = exec(alloc, &LEAST, &mut outside)?;
-    assert_eq!(rt; report.status, Status::Ended);
-    assert_eq!(rt; report.instructions, 1);
-    assert!(rt; has_written(&outside.console, b""));
-    assert!(rt; has_noted(alloc, &outside.notes, "")?);
-    Ok(())
+// Whether bytes are no image, for this reason.
+fn is_bad(alloc: Global, bytes: &[u8], error: ImageError) -> Result<bool, CabinetError> {
+    let answer = Answer {
+        status: Status::BadImage(error),
+        count: 0,
+        output: b"",
+        note: error_note(error),
+    };
+    is_executed(alloc, bytes, answer)
 }
+
+const ENDED: Answer = Answer {
+    status: Status::Ended,
+    count: 1,
+    output: b"",
+    note: "",
+};
 
 #[test]
 fn images_that_are_cut(rt: HostRuntime) -> Result<(), Fail> {
@@ -67,12 +80,9 @@ fn images_that_are_cut(rt: HostRuntime) -> Result<(), Fail> {
         } else {
             ImageError::Length
         };
-        let mut outside = make_outside(alloc, b"", AMPLE)?;
-        let report = exec(alloc, &LEAST[..size], &mut outside)?;
-        assert_eq!(rt; report.status, Status::BadImage(error));
-        assert!(rt; report.image.is_none());
-        assert!(rt; has_noted(alloc, &outside.notes, error_note(error))?);
+        assert!(rt; is_bad(alloc, &LEAST[..size], error)?);
     }
+    assert!(rt; is_executed(alloc, &LEAST, ENDED)?);
     Ok(())
 }
 
@@ -107,35 +117,21 @@ fn changed(alloc: Global, place: usize, number: u32) -> Result<Bytes, Memory> {
 fn images_with_other_bytes(rt: HostRuntime) -> Result<(), Fail> {
     let alloc = rt.alloc();
     for (at, number, error) in CHANGES {
-        let mut outside = make_outside(alloc, b"", AMPLE)?;
         let bytes = changed(alloc, at, number)?;
-        let report = exec(alloc, bytes.as_slice(), &mut outside)?;
-        assert_eq!(rt; report.status, Status::BadImage(error));
-        assert!(rt; has_noted(alloc, &outside.notes, error_note(error))?);
+        assert!(rt; is_bad(alloc, bytes.as_slice(), error)?);
     }
     Ok(())
 }
 
 #[test]
-fn images_with_more_bytes_or_no_text(rt: HostRuntime) -> Result<(), Fail> {
+fn images_of_other_sizes(rt: HostRuntime) -> Result<(), Fail> {
     let alloc = rt.alloc();
     let mut longer = Bytes::from_slice(alloc, &LEAST)?;
     longer.add(0)?;
-    let mut outside = make_outside(alloc, b"", AMPLE)?;
-    let report = exec(alloc, longer.as_slice(), &mut outside)?;
-    assert_eq!(rt; report.status, Status::BadImage(ImageError::Length));
-    let report = exec(alloc, &NO_TEXT, &mut outside)?;
-    assert_eq!(rt; report.status, Status::BadImage(ImageError::Entry));
-    Ok(())
-}
-
-#[test]
-fn an_image_above_the_limit(rt: HostRuntime) -> Result<(), Fail> {
-    let alloc = rt.alloc();
-    let bytes = vec![in alloc; 0u8; 67_108_885]?;
-    let mut outside = make_outside(alloc, b"", AMPLE)?;
-    let report = exec(alloc, &bytes, &mut outside)?;
-    assert_eq!(rt; report.status, Status::BadImage(ImageError::Size));
+    let largest = vec![in alloc; 0u8; 67_108_885]?;
+    assert!(rt; is_bad(alloc, longer.as_slice(), ImageError::Length)?);
+    assert!(rt; is_bad(alloc, &NO_TEXT, ImageError::Entry)?);
+    assert!(rt; is_bad(alloc, &largest, ImageError::Size)?);
     Ok(())
 }
 
@@ -203,26 +199,33 @@ const TEXTS: [(&[u32], FaultKind, u32, u64, &str); 8] = [
 fn texts_that_fault(rt: HostRuntime) -> Result<(), Fail> {
     let alloc = rt.alloc();
     for (words, kind, pc, count, note) in TEXTS {
-        let mut outside = make_outside(alloc, b"", AMPLE)?;
-        let report = exec(alloc, image_of(alloc, words)?.as_slice(), &mut outside)?;
-        assert_eq!(rt; report.status, Status::MachineFault { kind, pc });
-        assert_eq!(rt; report.instructions, count);
-        assert!(rt; has_noted(alloc, &outside.notes, note)?);
+        let answer = Answer {
+            status: Status::MachineFault { kind, pc },
+            count,
+            output: b"",
+            note,
+        };
+        let image = image_of(alloc, words)?;
+        assert!(rt; is_executed(alloc, image.as_slice(), answer)?);
     }
     Ok(())
 }
 
+const SPENT: Answer = Answer {
+    status: Status::Spent,
+    count: 50000,
+    output: b"",
+    note: "spent after 50000 instructions",
+};
+
+// A jump to itself.
 #[test]
 fn a_loop_is_spent(rt: HostRuntime) -> Result<(), Fail> {
     let alloc = rt.alloc();
     let mut outside = make_outside(alloc, b"", AMPLE)?;
     let image = image_of(alloc, &[0x0000_006f])?;
-    let name = Bytes::from_slice(alloc, b"a.img")?;
-    outside.cabinet.keep(alloc, &name, &image)?;
-    let report = command(alloc, "exec a.img budget=50000", &mut outside)?;
-    assert_eq!(rt; report.status, Status::Spent);
-    assert_eq!(rt; report.instructions, 50000);
-    assert!(rt; has_noted(alloc, &outside.notes, "spent after 50000 instructions")?);
+    keep(alloc, image.as_slice(), &mut outside)?;
+    assert!(rt; is_answered(alloc, "exec a.img budget=50000", &mut outside, SPENT)?);
     Ok(())
 }
 
@@ -321,10 +324,11 @@ const KEEPS: [(u64, Status, bool, bool); 3] = [
 #[test]
 fn open_files_are_kept_in_the_order_of_their_numbers(rt: HostRuntime) -> Result<(), Fail> {
     let alloc = rt.alloc();
+    let image = two_files(alloc)?;
     for (cabinet, status, first, second) in KEEPS {
-        let plan = Plan { cabinet, ..AMPLE };
-        let mut outside = make_outside(alloc, b"", plan)?;
-        let report = exec(alloc, two_files(alloc)?.as_slice(), &mut outside)?;
+        let mut outside = make_outside(alloc, b"", Plan { cabinet, ..AMPLE })?;
+        keep(alloc, image.as_slice(), &mut outside)?;
+        let report = command(alloc, "exec a.img", &mut outside)?;
         assert_eq!(rt; report.status, status);
         assert_eq!(rt; report.instructions, 26);
         assert_eq!(rt; has_file(alloc, &outside, b"p")?, first);
@@ -355,13 +359,17 @@ fn first_byte(alloc: Global) -> Result<Bytes, Memory> {
     image_with(alloc, &code, b"a.t")
 }
 
+const FIRST_BYTE: Answer = Answer {
+    status: Status::Ended,
+    count: 15,
+    output: b"p",
+    note: "",
+};
+
 #[test]
 fn a_file_is_read(rt: HostRuntime) -> Result<(), Fail> {
     let alloc = rt.alloc();
-    let mut outside = make_outside(alloc, b"put 1", AMPLE)?;
-    let report = exec(alloc, first_byte(alloc)?.as_slice(), &mut outside)?;
-    assert_eq!(rt; report.status, Status::Ended);
-    assert_eq!(rt; report.instructions, 15);
-    assert!(rt; has_written(&outside.console, b"p"));
+    let image = first_byte(alloc)?;
+    assert!(rt; is_executed(alloc, image.as_slice(), FIRST_BYTE)?);
     Ok(())
 }
