@@ -2,7 +2,7 @@
 use Rattle.std.proofs.Common.{◌≡◌, ℕ, zero, suc, ◌+◌, ◌<◌, ◌≤◌, Bool, true, false, eqb, List, [], ◌∷◌, ◌++◌, length, length-take, take, refl, ap, sym, arith}
 use Rattle.std.specs.Prelude.{Option, Some, None}
 use Rattle.std.proofs.lemmas.Bool.{eqb-true}
-use Rattle.tu_tree.specs.Scans.{Scan, Closes, Fails, Goes, one_more, closed_by, close_of, is_number, closes_last}
+use Rattle.tu_token.specs.Scans.{Scan, Closes, Fails, Goes, one_more, closed_by, close_of, is_number, closes_last}
 
 pub more_is : (o : Option ℕ) (n : ℕ) → one_more o ≡ Some n → (m : ℕ) × (o ≡ Some m) × (n ≡ 1 + m)
 more_is None n e = absurd (cc)

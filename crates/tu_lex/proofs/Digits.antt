@@ -1,6 +1,6 @@
 -- What digits spell, from the left.
 use Rattle.std.proofs.Common.{◌≡◌, ℕ, ◌+◌, ◌-◌, ◌*◌, ◌<◌, ◌≤◌, suc, List, [], ◌∷◌, length, get_or, drop, drop-cons, ap, sym, ◌∙◌, arith}
-use Rattle.tu_tree.specs.LexFaults.{value_after}
+use Rattle.tu_token.specs.LexFaults.{value_after}
 
 -- more digits spell no smaller number
 pub value_grows : (n : ℕ) (digits : List ℕ) → n ≤ value_after n digits

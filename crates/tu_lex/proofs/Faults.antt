@@ -2,10 +2,10 @@
 use Rattle.std.proofs.Common.{◌≡◌, ℕ, zero, suc, ◌+◌, ◌-◌, ◌<◌, ◌≤◌, Bool, true, false, cond, eqb, List, [], ◌∷◌, length, take, drop, refl, ap, ◌∙◌, sym, subst, arith, inl, inr}
 use Rattle.std.specs.Prelude.{Option, Some, None, IsSome}
 use Rattle.std.specs.List.{count_by, fold}
-use Rattle.tu_tree.specs.Scans.{Closes, Fails, Goes, closed_by, text_scan, close_of, bad_place, is_escape, is_text_byte}
-use Rattle.tu_tree.specs.Lexemes.{Quote, first_of, is_line_end, Shape, shape_of, IsPiece, IsSplit, size_of}
-use Rattle.tu_tree.specs.LexFaults.{FaultKind, BadByte, BadNumber, OpenText, LongText, OpenComment, LongName, TooMany, TooDeep, Reading, reading_after, read_piece, is_malformed, begins_token, bad_in_text, Deepens, IsFault, GoesBefore}
-use Rattle.tu_tree.proofs.Unique.{one_piece}
+use Rattle.tu_token.specs.Scans.{Closes, Fails, Goes, closed_by, text_scan, close_of, bad_place, is_escape, is_text_byte}
+use Rattle.tu_token.specs.Lexemes.{Quote, first_of, is_line_end, Shape, shape_of, IsPiece, IsSplit, size_of}
+use Rattle.tu_token.specs.LexFaults.{FaultKind, BadByte, BadNumber, OpenText, LongText, OpenComment, LongName, TooMany, TooDeep, Reading, reading_after, read_piece, is_malformed, begins_token, bad_in_text, Deepens, IsFault, GoesBefore}
+use Rattle.tu_token.proofs.Unique.{one_piece}
 use Rattle.tu_lex.specs.Reads.{HasFaultFrom}
 use Rattle.tu_lex.proofs.Closing.{more_is}
 use Rattle.tu_lex.proofs.Pieces.{chosen}

@@ -4,14 +4,14 @@ use Rattle.std.specs.Prelude.{Option, Some, None, is_none, is_some, Result, Ok, 
 use Rattle.std.specs.List.{prefix_len}
 use Rattle.std.specs.Char.{is_ascii_digit, is_ascii_alphabetic}
 use Rattle.std.proofs.lemmas.Bool.{eqb-true}
-use Rattle.tu_tree.specs.declared.class.Class.{Class}
-use Rattle.tu_tree.specs.declared.class.Class.TheVariants.{Number, SignNotEqual}
-use Rattle.tu_tree.specs.declared.fault.LexError.{LexError}
-use Rattle.tu_tree.specs.declared.fault.LexError.TheVariants.{BadByte as bad_byte, BadNumber as bad_number, OpenText as open_text, LongText as long_text, OpenComment as open_comment, LongName as long_name}
-use Rattle.tu_tree.specs.Words.{word_class, single, double}
-use Rattle.tu_tree.specs.Scans.{comment_scan, text_scan, close_of}
-use Rattle.tu_tree.specs.Lexemes.{First, White, Percent, Slash, Quote, Digit, Letter, Other, is_white, is_inside_line, is_name_byte, Separator, Lexeme}
-use Rattle.tu_tree.specs.LexFaults.{FaultKind, BadByte, BadNumber, OpenText, LongText, OpenComment, LongName, TooMany, TooDeep, rank, error_of, is_malformed, begins_token, is_bad_number, is_long_text}
+use Rattle.tu_token.specs.declared.class.Class.{Class}
+use Rattle.tu_token.specs.declared.class.Class.TheVariants.{Number, SignNotEqual}
+use Rattle.tu_token.specs.declared.fault.LexError.{LexError}
+use Rattle.tu_token.specs.declared.fault.LexError.TheVariants.{BadByte as bad_byte, BadNumber as bad_number, OpenText as open_text, LongText as long_text, OpenComment as open_comment, LongName as long_name}
+use Rattle.tu_token.specs.Words.{word_class, single, double}
+use Rattle.tu_token.specs.Scans.{comment_scan, text_scan, close_of}
+use Rattle.tu_token.specs.Lexemes.{First, White, Percent, Slash, Quote, Digit, Letter, Other, is_white, is_inside_line, is_name_byte, Separator, Lexeme}
+use Rattle.tu_token.specs.LexFaults.{FaultKind, BadByte, BadNumber, OpenText, LongText, OpenComment, LongName, TooMany, TooDeep, rank, error_of, is_malformed, begins_token, is_bad_number, is_long_text}
 use Rattle.tu_lex.specs.declared.piece.Piece.{Piece}
 use Rattle.tu_lex.specs.declared.piece.Piece.TheVariants.{Gap, Text, Lexeme as piece_lexeme}
 use Rattle.tu_lex.specs.Front.{begins_not_equal, comment_by, text_by, single_front, double_front, front_from}

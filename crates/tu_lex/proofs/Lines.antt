@@ -8,11 +8,11 @@ use Rattle.std.proofs.lemmas.List.{take-append-drop}
 use Rattle.std.proofs.lemmas.Bool.{eqb-true}
 use Rattle.std.proofs.lemmas.Slice.Eq.{bytes_eq-Decides}
 use Rattle.std.proofs.Math.Seq.{drop-length}
-use Rattle.tu_tree.specs.declared.class.Class.{Class}
-use Rattle.tu_tree.specs.declared.class.Class.TheVariants.{Number, Text as text_class, SignNotEqual}
-use Rattle.tu_tree.specs.Words.{word_class, single, double}
-use Rattle.tu_tree.specs.Scans.{comment_scan, text_scan, close_of, closes_last, bad_place}
-use Rattle.tu_tree.specs.Lexemes.{First, White, Percent, Slash, Quote, Digit, Letter, Other, first_of, is_white, is_line_end, is_inside_line, is_name_byte, Shape, Separator, Lexeme, as_lexeme, sign_shape, word_shape, comment_shape, shape_from, shape_of, IsPiece}
+use Rattle.tu_token.specs.declared.class.Class.{Class}
+use Rattle.tu_token.specs.declared.class.Class.TheVariants.{Number, Text as text_class, SignNotEqual}
+use Rattle.tu_token.specs.Words.{word_class, single, double}
+use Rattle.tu_token.specs.Scans.{comment_scan, text_scan, close_of, closes_last, bad_place}
+use Rattle.tu_token.specs.Lexemes.{First, White, Percent, Slash, Quote, Digit, Letter, Other, first_of, is_white, is_line_end, is_inside_line, is_name_byte, Shape, Separator, Lexeme, as_lexeme, sign_shape, word_shape, comment_shape, shape_from, shape_of, IsPiece}
 use Rattle.tu_lex.proofs.Prefix.{both}
 use Rattle.tu_lex.proofs.Closing.{close_longer, last_is}
 use Rattle.tu_lex.proofs.Pieces.{chosen, FirstIs, first_is}

@@ -2,7 +2,7 @@
 use Rattle.std.proofs.Common.{◌≡◌, ℕ, ◌+◌, ◌<◌, suc, Bool, true, false, cond, eqb, not, ◌&&◌, List, ◌∷◌, length, get_or, drop, drop-cons, refl, ap, sym, ◌∙◌, arith}
 use Rattle.std.proofs.Math.Seq.{drop-length}
 use Rattle.std.specs.Prelude.{Option, Some, None}
-use Rattle.tu_tree.specs.Scans.{Scan, Closes, Fails, Goes, one_more, closed_by, close_of, contents}
+use Rattle.tu_token.specs.Scans.{Scan, Closes, Fails, Goes, one_more, closed_by, close_of, contents}
 
 -- more bytes before the closing one
 abbrev pub plus : ℕ → Option ℕ → Option ℕ

@@ -3,15 +3,15 @@ use Rattle.std.proofs.Common.{◌≡◌, ℕ, zero, suc, ◌+◌, ◌<◌, ◌�
 use Rattle.std.specs.Prelude.{Option, Some, None, is_none, is_some, Result, Ok, Err, MatchResult}
 use Rattle.std.specs.List.{count_by}
 use Rattle.std.proofs.lemmas.Bool.{eqb-true}
-use Rattle.tu_tree.specs.declared.class.Class.{Class}
-use Rattle.tu_tree.specs.declared.class.Class.TheVariants.{Text as text_class}
-use Rattle.tu_tree.specs.declared.fault.LexError.{LexError}
-use Rattle.tu_tree.specs.declared.fault.LexError.TheVariants.{Memory, BadByte as bad_byte, TooMany as too_many, TooDeep as too_deep}
-use Rattle.tu_tree.specs.Scans.{text_scan, close_of, bad_place}
-use Rattle.tu_tree.specs.Lexemes.{First, Quote, first_of, is_line_end, Shape, Separator, Lexeme, shape_of, IsPiece, line_after}
-use Rattle.tu_tree.specs.Nests.{nest_after, depth}
-use Rattle.tu_tree.specs.LexFaults.{FaultKind, BadByte, BadNumber, OpenText, LongText, OpenComment, LongName, TooMany, TooDeep, rank, error_of, Reading, begins_token, is_malformed, bad_in_text, Deepens, IsFault, read_piece, GoesBefore, IsLexFault}
-use Rattle.tu_tree.proofs.Unique.{one_piece}
+use Rattle.tu_token.specs.declared.class.Class.{Class}
+use Rattle.tu_token.specs.declared.class.Class.TheVariants.{Text as text_class}
+use Rattle.tu_token.specs.declared.fault.LexError.{LexError}
+use Rattle.tu_token.specs.declared.fault.LexError.TheVariants.{Memory, BadByte as bad_byte, TooMany as too_many, TooDeep as too_deep}
+use Rattle.tu_token.specs.Scans.{text_scan, close_of, bad_place}
+use Rattle.tu_token.specs.Lexemes.{First, Quote, first_of, is_line_end, Shape, Separator, Lexeme, shape_of, IsPiece, line_after}
+use Rattle.tu_token.specs.Nests.{nest_after, depth}
+use Rattle.tu_token.specs.LexFaults.{FaultKind, BadByte, BadNumber, OpenText, LongText, OpenComment, LongName, TooMany, TooDeep, rank, error_of, Reading, begins_token, is_malformed, bad_in_text, Deepens, IsFault, read_piece, GoesBefore, IsLexFault}
+use Rattle.tu_token.proofs.Unique.{one_piece}
 use Rattle.tu_lex.specs.declared.lexer.Progress.{Progress}
 use Rattle.tu_lex.specs.declared.piece.Piece.{Piece}
 use Rattle.tu_lex.specs.declared.piece.Piece.TheVariants.{Gap, Text, Lexeme as piece_lexeme}

@@ -5,11 +5,11 @@ use Rattle.std.specs.List.{count_by}
 use Rattle.std.proofs.lemmas.List.{take-append-drop, drop-drop}
 use Rattle.std.proofs.lemmas.List.Sums.{sum_by-append}
 use Rattle.std.proofs.Math.Seq.{take-add, drop-length}
-use Rattle.tu_tree.specs.TokenList.{TokenList}
-use Rattle.tu_tree.specs.Lexemes.{is_line_end, Shape, shape_of, IsPiece, IsSplit, size_of, line_after, token_of, tokens_of, IsLexed}
-use Rattle.tu_tree.specs.Nests.{no_nest}
-use Rattle.tu_tree.specs.LexFaults.{FaultKind, error_of, Reading, reading_after, read_piece, at_start, IsFault, HasFault, GoesBefore, IsLexFault}
-use Rattle.tu_tree.proofs.Unique.{no_piece, within}
+use Rattle.tu_token.specs.TokenList.{TokenList}
+use Rattle.tu_token.specs.Lexemes.{is_line_end, Shape, shape_of, IsPiece, IsSplit, size_of, line_after, token_of, tokens_of, IsLexed}
+use Rattle.tu_token.specs.Nests.{no_nest}
+use Rattle.tu_token.specs.LexFaults.{FaultKind, error_of, Reading, reading_after, read_piece, at_start, IsFault, HasFault, GoesBefore, IsLexFault}
+use Rattle.tu_token.proofs.Unique.{no_piece, within}
 use Rattle.tu_lex.specs.declared.lexer.Progress.{Progress}
 use Rattle.tu_lex.specs.Reads.{HasFaultFrom, reading_of, Reads}
 use Rattle.tu_lex.proofs.Faults.{goes_before_all, behind_piece}

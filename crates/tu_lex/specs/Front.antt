@@ -2,14 +2,14 @@
 use Rattle.std.specs.Prelude.{ℕ, ◌+◌, Bool, false, ◌==◌, ◌&&◌, nat_lt, List, [], ◌∷◌, take, Option, Some, None, Result, Ok, Err, if◌then◌else◌}
 use Rattle.std.specs.List.{prefix_len}
 use Rattle.std.specs.Char.{is_ascii_digit}
-use Rattle.tu_tree.specs.declared.class.Class.{Class}
-use Rattle.tu_tree.specs.declared.class.Class.TheVariants.{Number, SignNotEqual}
-use Rattle.tu_tree.specs.declared.fault.LexError.{LexError}
-use Rattle.tu_tree.specs.declared.fault.LexError.TheVariants.{BadByte, BadNumber, OpenText, LongText, OpenComment, LongName}
-use Rattle.tu_tree.specs.Words.{word_class, single, double}
-use Rattle.tu_tree.specs.Scans.{comment_scan, text_scan, close_of}
-use Rattle.tu_tree.specs.Lexemes.{First, White, Percent, Slash, Quote, Digit, Letter, Other, first_of, is_white, is_inside_line, is_name_byte}
-use Rattle.tu_tree.specs.LexFaults.{is_bad_number, is_long_text}
+use Rattle.tu_token.specs.declared.class.Class.{Class}
+use Rattle.tu_token.specs.declared.class.Class.TheVariants.{Number, SignNotEqual}
+use Rattle.tu_token.specs.declared.fault.LexError.{LexError}
+use Rattle.tu_token.specs.declared.fault.LexError.TheVariants.{BadByte, BadNumber, OpenText, LongText, OpenComment, LongName}
+use Rattle.tu_token.specs.Words.{word_class, single, double}
+use Rattle.tu_token.specs.Scans.{comment_scan, text_scan, close_of}
+use Rattle.tu_token.specs.Lexemes.{First, White, Percent, Slash, Quote, Digit, Letter, Other, first_of, is_white, is_inside_line, is_name_byte}
+use Rattle.tu_token.specs.LexFaults.{is_bad_number, is_long_text}
 use Rattle.tu_lex.specs.declared.piece.Piece.{Piece}
 use Rattle.tu_lex.specs.declared.piece.Piece.TheVariants.{Gap, Text, Lexeme}
 

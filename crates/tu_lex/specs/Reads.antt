@@ -1,11 +1,11 @@
 -- How far a source is read, and what is still to come.
 use Rattle.std.specs.Prelude.{◌≡◌, ℕ, ◌+◌, ◌≤◌, Bool, nat_le, ◌==◌, List, [], ◌∷◌, ◌++◌, length, take, drop, Option, Some, None, if◌then◌else◌}
-use Rattle.tu_tree.specs.declared.class.Class.{Class}
-use Rattle.tu_tree.specs.declared.fault.LexError.{LexError}
-use Rattle.tu_tree.specs.declared.fault.LexError.TheVariants.{BadByte as bad_byte, TooMany as too_many, TooDeep as too_deep}
-use Rattle.tu_tree.specs.Lexemes.{IsSplit, size_of, line_after, tokens_of}
-use Rattle.tu_tree.specs.Nests.{nest_after, depth}
-use Rattle.tu_tree.specs.LexFaults.{FaultKind, Reading, reading_after, at_start, IsFault, HasFault}
+use Rattle.tu_token.specs.declared.class.Class.{Class}
+use Rattle.tu_token.specs.declared.fault.LexError.{LexError}
+use Rattle.tu_token.specs.declared.fault.LexError.TheVariants.{BadByte as bad_byte, TooMany as too_many, TooDeep as too_deep}
+use Rattle.tu_token.specs.Lexemes.{IsSplit, size_of, line_after, tokens_of}
+use Rattle.tu_token.specs.Nests.{nest_after, depth}
+use Rattle.tu_token.specs.LexFaults.{FaultKind, Reading, reading_after, at_start, IsFault, HasFault}
 use Rattle.tu_lex.specs.declared.lexer.Progress.{Progress}
 
 -- the bytes behind a gap

@@ -1,7 +1,7 @@
 // A source as tokens.
 ghost use Rattle.std.specs.Prelude.{◌≡◌, ◌+◌, ◌<◌, ◌≤◌, ◌⊎◌, ℕ, Some, None, length, take, drop, IfOk, IfErr, MatchResult};
-ghost use Rattle.tu_tree.specs.Lexemes.{line_after, IsLexed};
-ghost use Rattle.tu_tree.specs.LexFaults.{HasNoFault, IsLexFault};
+ghost use Rattle.tu_token.specs.Lexemes.{line_after, IsLexed};
+ghost use Rattle.tu_token.specs.LexFaults.{HasNoFault, IsLexFault};
 ghost use Rattle.tu_lex.specs.Reads.{passed, taken, refusal_of, Reads};
 
 use crate::piece::{Piece, front};
@@ -9,7 +9,7 @@ use crate::stack::Nest;
 use crate::text::has_bad_byte;
 use std::alloc::Global;
 use tu_base::{Bytes, Line};
-use tu_tree::{Class, LexError, Token, Tokens};
+use tu_token::{Class, LexError, Token, Tokens};
 
 const MOST_TOKENS: u32 = 65_536;
 

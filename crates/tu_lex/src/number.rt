@@ -2,7 +2,7 @@
 ghost use Rattle.std.specs.Prelude.{◌≡◌, ◌≤◌, length, nat_lt};
 ghost use Rattle.std.specs.List.{prefix_len};
 ghost use Rattle.std.specs.Char.{is_ascii_digit};
-ghost use Rattle.tu_tree.specs.LexFaults.{value_after, goes_on, is_bad_number};
+ghost use Rattle.tu_token.specs.LexFaults.{value_after, goes_on, is_bad_number};
 
 use crate::word::is_name_byte;
 

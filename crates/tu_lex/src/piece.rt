@@ -1,8 +1,8 @@
 // What stands in front of bytes.
 ghost use Rattle.std.specs.Prelude.{◌≡◌, false};
-ghost use Rattle.tu_tree.specs.Words.{single};
+ghost use Rattle.tu_token.specs.Words.{single};
 ghost use Rattle.tu_lex.specs.Front.{comment_front, text_by, number_front, word_front, single_front, sign_front, front};
-ghost use Rattle.tu_tree.specs.Scans.{text_scan, close_of};
+ghost use Rattle.tu_token.specs.Scans.{text_scan, close_of};
 
 use crate::number::{digits_length, is_bad_number};
 use crate::separator::{comment_end, line_length, white_length};
@@ -10,7 +10,7 @@ use crate::sign::{double, single};
 use crate::text::{contents_length, text_end};
 use crate::word::{begins_not_equal, name_length, word_class};
 use tu_base::Line;
-use tu_tree::{Class, LexError};
+use tu_token::{Class, LexError};
 
 const LONGEST_TEXT: usize = 255;
 

@@ -1,8 +1,8 @@
 // White space and comments.
 ghost use Rattle.std.specs.Prelude.{◌≡◌, ◌≤◌, false, length, IfSome};
 ghost use Rattle.std.specs.List.{prefix_len};
-ghost use Rattle.tu_tree.specs.Lexemes.{is_white, is_inside_line};
-ghost use Rattle.tu_tree.specs.Scans.{comment_scan, close_of};
+ghost use Rattle.tu_token.specs.Lexemes.{is_white, is_inside_line};
+ghost use Rattle.tu_token.specs.Scans.{comment_scan, close_of};
 
 pub fn is_white(byte: u8) -> bool
     ensures { result ≡ is_white byte }

@@ -1,8 +1,8 @@
 // Signs.
 ghost use Rattle.std.specs.Prelude.{◌≡◌};
-ghost use Rattle.tu_tree.specs.Words.{single, double};
+ghost use Rattle.tu_token.specs.Words.{single, double};
 
-use tu_tree::Class;
+use tu_token::Class;
 
 /// The sign that is this byte.
 pub fn single(byte: u8) -> Option<Class>

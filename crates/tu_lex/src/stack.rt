@@ -1,9 +1,9 @@
 // The brackets and constructs that are open.
 ghost use Rattle.std.specs.Prelude.{◌≡◌, ◌≤◌, ◌↔◌, IsTrue, length};
-ghost use Rattle.tu_tree.specs.Nests.{role_of, is_opened, no_nest, opened, closed, ended, nest_after, depth};
+ghost use Rattle.tu_token.specs.Nests.{role_of, is_opened, no_nest, opened, closed, ended, nest_after, depth};
 
 use std::marker::Model;
-use tu_tree::{Before, Class, Construct, Role};
+use tu_token::{Before, Class, Construct, Role};
 
 const DEEPEST: usize = 32;
 
@@ -17,7 +17,7 @@ pub struct Nest {
 
 impl Model for Nest {
     ghost use Rattle.std.specs.Prelude.{◌≤◌, take, reverse};
-    ghost use Rattle.tu_tree.specs.Nests.{Nest as Open};
+    ghost use Rattle.tu_token.specs.Nests.{Nest as Open};
 
     ghost Value = { Open };
 

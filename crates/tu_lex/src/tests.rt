@@ -2,7 +2,7 @@ use crate::lex;
 use std::alloc::Global;
 use std::test::Fail;
 use tu_base::{Bytes, Memory};
-use tu_tree::{Class, LexError, Tokens};
+use tu_token::{Class, LexError, Tokens};
 
 const LONGEST: usize = 1_048_576;
 

@@ -1,6 +1,6 @@
 // Texts, from the byte behind the opening quote on.
 ghost use Rattle.std.specs.Prelude.{◌≡◌, ◌<◌, ◌≤◌, ◌==◌, ◌&&◌, not, false, length, is_some, IfSome};
-ghost use Rattle.tu_tree.specs.Scans.{text_scan, close_of, is_text_byte, is_escape, bad_place, contents};
+ghost use Rattle.tu_token.specs.Scans.{text_scan, close_of, is_text_byte, is_escape, bad_place, contents};
 
 // Whether a byte begins an escape, where it may be the escaped one of the byte before.
 fn begins_escape(escaped: bool, byte: u8) -> bool

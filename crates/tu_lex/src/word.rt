@@ -1,11 +1,11 @@
 // Names and reserved words.
 ghost use Rattle.std.specs.Prelude.{◌≡◌, ◌≤◌, length, map, unwrap_or};
 ghost use Rattle.std.specs.List.{prefix_len};
-ghost use Rattle.tu_tree.specs.Lexemes.{is_name_byte};
-ghost use Rattle.tu_tree.specs.Words.{entry, word_class};
+ghost use Rattle.tu_token.specs.Lexemes.{is_name_byte};
+ghost use Rattle.tu_token.specs.Words.{entry, word_class};
 ghost use Rattle.tu_lex.specs.Front.{begins_not_equal};
 
-use tu_tree::Class;
+use tu_token::Class;
 
 const WORDS: [(&[u8], Class); 61] = [
     (b"all", Class::WordAll),

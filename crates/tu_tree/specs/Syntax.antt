@@ -1,32 +1,6 @@
--- Trees of programs, and the place of a syntax fault.
-use Rattle.std.specs.Coded.{Coded}
-use Rattle.std.specs.Prelude.{ℕ}
-use Rattle.grammar.specs.Coded.{coded}
-use Rattle.grammar.specs.Description.{rule}
-use Rattle.grammar.specs.Fault.{IsFaultAt}
-use Rattle.grammar.specs.Placed.{IsPlaced as is_placed}
-use Rattle.grammar.specs.Tree.{Node, Spells as spells}
-use Rattle.tu_tree.specs.ClassNumbers.{lexemes, places, end_of}
-use Rattle.tu_tree.specs.Rules.{Rule, r-program, body}
-use Rattle.tu_tree.specs.Table.{some, table}
-use Rattle.tu_tree.specs.TokenList.{TokenList}
-
--- a tree of a rule
-abbrev pub Of : Rule → Type 0
-Of n = Node body (rule n)
-
-abbrev pub coded_of : (n : Rule) → Coded (Of n)
-coded_of n = coded body some (rule n)
-
--- the tree spells the tokens, by their classes and texts
-abbrev pub Spells : Of r-program → TokenList → Type 0
-Spells tree tokens = spells tree (lexemes tokens.items)
-
--- the numbers, starts and lines in the tree are those that the places of the tokens give
-abbrev pub IsPlaced : Of r-program → TokenList → Type 0
-IsPlaced tree tokens = is_placed table tree (places tokens.items) (end_of tokens)
-
--- Token k, or the end behind the last token, is the least that fits no program: some program begins with the tokens before it,
--- and none with those and it.
-abbrev pub IsSyntaxFault : TokenList → ℕ → Type 0
-IsSyntaxFault tokens k = IsFaultAt body (rule r-program) (lexemes tokens.items) k
+-- The grammar, its trees and the tokens, as one place to name them from.
+pub use Rattle.tu_token.specs.Rules.{Rule, r-program, r-item, r-block, r-const, r-var, r-type, r-names, r-start, r-bind, r-binding, r-spec, r-index, r-base, r-range, r-name, r-field, r-variant, r-subprogram, r-head, r-formals, r-formal, r-rest, r-given, r-import, r-imp, r-export, r-exp, r-module, r-statement, r-shown, r-taken, r-expr, r-or, r-and, r-not, r-compare, r-relation, r-sum, r-term, r-prefix, r-power, r-primary, r-path, r-arg, r-place, r-pre, r-givens, r-post, r-invariant, r-ending, r-elsif, r-arm, r-any, ◌⨟◌, ◌∣◌, many, maybe, t, listed, body}
+pub use Rattle.tu_token.specs.Syntax.{Of, coded_of, Spells, IsPlaced, IsSyntaxFault}
+pub use Rattle.tu_token.specs.Table.{table}
+pub use Rattle.tu_token.specs.TokenList.{TokenList}
+pub use Rattle.tu_expr.specs.Parts.{Part, further, mark_of, text_of, start_of, line_of}

@@ -1,7 +1,7 @@
 use Rattle.std.proofs.Common.{refl, ap}
-use Rattle.tu_tree.specs.TokenList.{TokenList}
-use Rattle.tu_tree.specs.Lexemes.{IsLexed}
-use Rattle.tu_tree.specs.LexFaults.{HasNoFault}
+use Rattle.tu_token.specs.TokenList.{TokenList}
+use Rattle.tu_token.specs.Lexemes.{IsLexed}
+use Rattle.tu_token.specs.LexFaults.{HasNoFault}
 use Rattle.tu_lex.proofs.Turns.{reads_none, reads_all, no_fault_left}
 use Rattle.tu_lex.proofs.lexer.lex.Goals as goal
 

@@ -1,6 +1,6 @@
 use Rattle.std.proofs.Common.{◌≡◌, ℕ, ◌<◌, false, List, length, length-drop, length-take, take, drop, ap, ◌∙◌, inr, arith}
 use Rattle.std.specs.Prelude.{is_some}
-use Rattle.tu_tree.specs.Scans.{bad_place}
+use Rattle.tu_token.specs.Scans.{bad_place}
 use Rattle.tu_lex.specs.declared.piece.Piece.TheVariants.{Gap, Text, Lexeme}
 use Rattle.tu_lex.proofs.Steps.{front_within, at_fault, at_gap, at_text, at_lexeme}
 use Rattle.tu_lex.proofs.lexer.step.Goals as goal

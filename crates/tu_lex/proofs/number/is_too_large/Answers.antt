@@ -1,5 +1,5 @@
 use Rattle.std.proofs.Common.{◌<◌, ◌+◌, ◌*◌, get_or, refl, arith}
-use Rattle.tu_tree.specs.LexFaults.{value_after}
+use Rattle.tu_token.specs.LexFaults.{value_after}
 use Rattle.tu_lex.proofs.Digits.{stops}
 use Rattle.tu_lex.proofs.number.is_too_large.Goals as goal
 

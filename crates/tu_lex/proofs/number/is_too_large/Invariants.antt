@@ -1,5 +1,5 @@
 use Rattle.std.proofs.Common.{◌≡◌, ◌≤◌, drop}
-use Rattle.tu_tree.specs.LexFaults.{value_after}
+use Rattle.tu_token.specs.LexFaults.{value_after}
 use Rattle.tu_lex.proofs.number.is_too_large.Given as goal
 
 abbrev pub invariant-loop-digit : goal.invariant-loop-digit

@@ -1,4 +1,4 @@
-use Rattle.tu_tree.specs.Scans.{comment_scan}
+use Rattle.tu_token.specs.Scans.{comment_scan}
 use Rattle.tu_lex.proofs.Scanning.{Left}
 use Rattle.tu_lex.proofs.separator.comment_end.Given as goal
 

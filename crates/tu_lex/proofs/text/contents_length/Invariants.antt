@@ -1,5 +1,5 @@
 use Rattle.std.proofs.Common.{◌≡◌, ◌+◌, ◌≤◌, false, length, drop}
-use Rattle.tu_tree.specs.Scans.{contents}
+use Rattle.tu_token.specs.Scans.{contents}
 use Rattle.tu_lex.proofs.text.contents_length.Given as goal
 
 abbrev pub invariant-loop-byte : goal.invariant-loop-byte

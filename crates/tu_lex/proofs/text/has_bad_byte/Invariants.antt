@@ -1,5 +1,5 @@
 use Rattle.std.proofs.Common.{◌≡◌, ◌+◌, false, drop}
-use Rattle.tu_tree.specs.Scans.{bad_place}
+use Rattle.tu_token.specs.Scans.{bad_place}
 use Rattle.tu_lex.proofs.text.has_bad_byte.Given as goal
 
 abbrev pub invariant-loop-byte : goal.invariant-loop-byte

@@ -1,4 +1,4 @@
-use Rattle.tu_tree.specs.Scans.{text_scan}
+use Rattle.tu_token.specs.Scans.{text_scan}
 use Rattle.tu_lex.proofs.Scanning.{Left}
 use Rattle.tu_lex.proofs.text.text_end.Given as goal
 

@@ -1,5 +1,5 @@
 use Rattle.std.proofs.Common.{◌≡◌, map, length}
-use Rattle.tu_tree.specs.Words.{entry}
+use Rattle.tu_token.specs.Words.{entry}
 use Rattle.tu_lex.proofs.word.class_in.Given as goal
 
 abbrev pub invariant-loop-table : goal.invariant-loop-table

@@ -1,4 +1,4 @@
-use Rattle.tu_tree.specs.Words.{words}
+use Rattle.tu_token.specs.Words.{words}
 use Rattle.tu_lex.proofs.word.word_class.Goals as goal
 
 pub returns : goal.returns

@@ -1,0 +1,5 @@
+pub mod Parts
+pub mod Leaves
+pub mod Views
+pub mod Falls
+pub mod Forms

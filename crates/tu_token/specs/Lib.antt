@@ -1,0 +1,11 @@
+pub mod TokenList
+pub mod Words
+pub mod Scans
+pub mod Nests
+pub mod Lexemes
+pub mod LexFaults
+pub mod ClassNumbers
+pub mod Rules
+pub mod Table
+pub mod Syntax
+pub mod Printed

@@ -1,5 +1,0 @@
-use Rattle.tu_tree.proofs.Programs.{tree_or_fault}
-use Rattle.tu_tree.proofs.grammar_laws.tree_or_fault.Goals as goal
-
-pub returns : goal.returns
-returns c = tree_or_fault

@@ -1,5 +1,0 @@
-use Rattle.tu_tree.proofs.Unique.{one_list}
-use Rattle.tu_tree.proofs.laws.one_token_list.Goals as goal
-
-pub returns : goal.returns
-returns c = one_list
