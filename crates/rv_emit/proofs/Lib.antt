@@ -1,0 +1,12 @@
+pub mod Finding
+pub mod Zipping
+pub mod Moving
+pub mod PuttingOff
+pub mod Mixing
+pub mod Labelling
+pub mod Entries
+pub mod Routines
+pub mod Renaming
+pub mod Readying
+pub mod Ranges
+pub mod Measures

@@ -1,0 +1,4 @@
+pub mod Placed
+pub mod Site
+pub mod Mixed
+pub mod Ready

@@ -1,0 +1,9 @@
+pub mod Pieces
+pub mod Rooms
+pub mod Moves
+pub mod Calling
+pub mod Words
+pub mod Lengths
+pub mod Text
+pub mod Ready
+pub mod Agrees
