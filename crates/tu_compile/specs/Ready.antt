@@ -1,6 +1,7 @@
 -- What the passes need of a code, and what they say of the code that they make.
 use Rattle.std.specs.Prelude.{◌≡◌, ℕ, ◌*◌, ◌≤◌, All, length}
 use Rattle.std.specs.List.{AllZip}
+use Rattle.rv_image.specs.Picture.{Picture}
 use Rattle.ir_form.specs.declared.unit.Unit.{Unit as RegionUnit}
 use Rattle.ir_form.specs.Lawful.{IsLawful as IsLawfulUnit}
 use Rattle.ir_form.specs.Valid.{IsValid}
@@ -11,9 +12,10 @@ use Rattle.rv_flat.specs.Lawful.{IsLawful as IsLawfulLinear}
 use Rattle.rv_flat.specs.Parts.{KeepsParts, HasItsLabels, TakesOnce}
 use Rattle.rv_flat.specs.Size.{linear_size}
 use Rattle.rv_alloc.specs.declared.assigned.Assigned.{Assigned}
-use Rattle.rv_alloc.specs.Assigned.{assigned_size}
+use Rattle.rv_alloc.specs.Assigned.{placed_code, assigned_size}
 use Rattle.rv_alloc.specs.Holds.{HoldsRoutine, IsSlotted, HasRoom}
 use Rattle.rv_alloc.specs.Keeps.{IsLawful as IsLawfulAssigned}
+use Rattle.rv_layout.specs.Text.{image_of}
 
 -- how much a unit weighs at most, how many words of text its code then takes at most, and how many bytes its literals have at most
 abbrev pub most_weight : ℕ
@@ -45,24 +47,29 @@ pub record IsFlattened (unit : RegionUnit) (linear : Linear) : Type 0 where
   pub ready : IsReadyLinear linear
   pub parts : KeepsParts unit linear
 
--- assigned code that can become instructions of the machine
+-- assigned code, with each value in a slot, that can become instructions of the machine
 pub record IsReadyAssigned (assigned : Assigned) : Type 0 where
   pub lawful : IsLawfulAssigned assigned
   pub labels : All (λ (r : LinearRoutine). HasItsLabels r.code) assigned.linear.routines
   pub taken_once : All TakesOnce assigned.linear.routines
   pub places : AllZip HoldsRoutine assigned.linear.routines assigned.places
+  pub slots : AllZip IsSlotted assigned.linear.routines assigned.places
   pub room : AllZip HasRoom assigned.linear.routines assigned.places
   pub size : assigned_size assigned ≤ most_words
   pub texts : length assigned.linear.texts ≤ most_texts
 
--- what holds of linear code and its places, each of which is a slot
+-- what holds of linear code and its places
 pub record IsAssigned (linear : Linear) (assigned : Assigned) : Type 0 where
   pub ready : IsReadyAssigned assigned
   pub code : assigned.linear ≡ linear
-  pub slots : AllZip IsSlotted assigned.linear.routines assigned.places
 
 -- what holds of a unit and its assigned code
 pub record IsPlacedCode (unit : RegionUnit) (assigned : Assigned) : Type 0 where
   pub ready : IsReadyAssigned assigned
   pub parts : KeepsParts unit assigned.linear
-  pub slots : AllZip IsSlotted assigned.linear.routines assigned.places
+
+-- an image is that of a unit's assigned code
+pub record IsImageOfUnit (unit : RegionUnit) (image : Picture) : Type 0 where
+  pub assigned : Assigned
+  pub placed : IsPlacedCode unit assigned
+  pub is : image ≡ image_of (placed_code assigned)

@@ -1,29 +1,77 @@
 // The passes in a chain.
 
-ghost use Rattle.std.specs.Prelude.{IfOk};
-ghost use Rattle.tu_agree.specs.Keep.{KeepsTurns};
+ghost use Rattle.std.proofs.Common.{lit<};
+ghost use Rattle.std.specs.Prelude.{refl, IfOk};
+ghost use Rattle.tu_agree.specs.Keep.{KeepsInstructions, Turns};
+ghost use Rattle.tu_agree.specs.Outcomes.{image_meant};
 ghost use Rattle.tu_compile.specs.Meant.{assigned_meant, region_meant};
-ghost use Rattle.tu_compile.specs.Ready.{IsPlacedCode, IsReadyUnit};
+ghost use Rattle.tu_compile.specs.Ready.{IsImageOfUnit, IsPlacedCode, IsReadyUnit};
 
 use crate::assign::Assign;
+use crate::emit::Emit;
 use crate::flat::Flat;
 use ir_form::Unit;
 use rv_alloc::Assigned;
+use rv_image::Image;
 use std::alloc::Global;
-use tu_agree::{Both, Pass};
+use tu_agree::{Both, Follows, Pass};
 use tu_base::Memory;
 
-/// From region code to assigned code.
-pub type Chain = Both<Flat, Assign>;
+/// From region code to assigned code, by `Flat` and `Assign`.
+pub struct Middle;
 
-/// The assigned code of a unit, which does what the unit does and costs no more. It fails only for
-/// want of memory.
-#[tactic(auto, using(crate::proofs::Places::is_placed))]
-pub fn placed(alloc: Global, unit: &Unit) -> Result<Assigned, Memory>
+impl Pass for Middle {
+    type Before = Unit;
+
+    type After = Assigned;
+
+    const SLOW: u64 = 1;
+
+    const START: u64 = 0;
+
+    ghost SLOW = { 1 };
+
+    ghost START = { 0 };
+
+    ghost meant_before = { region_meant };
+
+    ghost meant_after = { assigned_meant };
+
+    ghost bound = { Turns };
+
+    ghost ready = { IsReadyUnit };
+
+    ghost gives = { IsPlacedCode };
+
+    #[tactic(auto, using(crate::proofs::Places::is_placed))]
+    fn pass(alloc: Global, before: &Unit) -> Result<Assigned, Memory> {
+        Both::<Flat, Assign>::pass(alloc, before)
+    }
+}
+
+impl Follows<Middle> for Emit {
+    ghost turns = { refl };
+
+    ghost next = { λ before middle ready gives. gives.ready };
+
+    ghost same = { λ middle. refl };
+
+    ghost slow_fits = { lit< tt };
+
+    ghost start_fits = { lit< tt };
+}
+
+/// From region code to an image.
+pub type Chain = Both<Middle, Emit>;
+
+/// The image of a unit, which does what the unit does. It runs as many instructions as that costs and
+/// 12 more, at most. It fails only for want of memory.
+#[tactic(auto, using(crate::proofs::Places::is_image))]
+pub fn image(alloc: Global, unit: &Unit) -> Result<Image, Memory>
     requires { IsReadyUnit unit.now }
     ensures keeps { let meant = region_meant unit.now in
-        IfOk result (λ assigned. KeepsTurns 1 0 meant (assigned_meant assigned)) }
-    ensures code { IfOk result (IsPlacedCode unit.now) }
+        IfOk result (λ image. KeepsInstructions 1 12 meant (image_meant image)) }
+    ensures code { IfOk result (IsImageOfUnit unit.now) }
 {
     Chain::pass(alloc, unit)
 }

@@ -1,13 +1,14 @@
-//! A unit that ends at once, and its way through the chain of passes.
+//! A unit that ends at once, and its image.
 
 ghost use Rattle.std.specs.Prelude.{◌≡◌, IfOk};
-ghost use Rattle.tu_agree.specs.Keep.{KeepsTurns};
+ghost use Rattle.tu_agree.specs.Keep.{KeepsInstructions};
+ghost use Rattle.tu_agree.specs.Outcomes.{image_meant};
 ghost use Rattle.tu_compile.specs.Example.{ending_unit};
-ghost use Rattle.tu_compile.specs.Meant.{assigned_meant, region_meant};
+ghost use Rattle.tu_compile.specs.Meant.{region_meant};
 
-use crate::chain::placed;
+use crate::chain::image;
 use ir_form::{Region, Routine, Unit};
-use rv_alloc::Assigned;
+use rv_image::Image;
 use sqlite_items::Items;
 use std::alloc::Global;
 use tu_base::{Bytes, Memory};
@@ -37,51 +38,40 @@ pub fn ending(alloc: Global) -> Result<Unit, Memory>
     })
 }
 
-/// Its assigned code.
+/// Its image.
 #[tactic(auto, using(crate::proofs::Ending::ending_ready))]
-pub fn place_ending(alloc: Global) -> Result<Assigned, Memory>
+pub fn image_of_ending(alloc: Global) -> Result<Image, Memory>
     ensures { let meant = region_meant ending_unit in
-        IfOk result (λ assigned. KeepsTurns 1 0 meant (assigned_meant assigned)) }
+        IfOk result (λ image. KeepsInstructions 1 12 meant (image_meant image)) }
 {
     let unit = ending(alloc)?;
-    placed(alloc, &unit)
+    image(alloc, &unit)
 }
 
 #[cfg(test)]
 mod tests {
     use super::*;
-    use crate::{Assign, Chain, Flat};
-    use ir_form::valid;
-    use rv_alloc::holds;
-    use rv_flat::{Instruction, flat};
+    use crate::{Assign, Chain, Emit, Flat};
     use std::test::Fail;
     use tu_agree::Pass;
 
     #[test]
-    fn numbers_stay(rt: HostRuntime) {
+    fn numbers_compose(rt: HostRuntime) {
         let rows = [
-            (Flat::SLOW, Flat::START),
-            (Assign::SLOW, Assign::START),
-            (Chain::SLOW, Chain::START),
+            (Flat::SLOW, Flat::START, 0),
+            (Assign::SLOW, Assign::START, 0),
+            (Emit::SLOW, Emit::START, 12),
+            (Chain::SLOW, Chain::START, 12),
         ];
-        for numbers in rows {
-            assert_eq!(rt; numbers, (1, 0));
+        for (slow, start, start_wanted) in rows {
+            assert_eq!(rt; (slow, start), (1, start_wanted));
         }
     }
 
     #[test]
-    fn chain_makes_code(rt: HostRuntime) -> Result<(), Fail> {
-        let alloc = rt.alloc();
-        let assigned = place_ending(alloc)?;
-        let routines = assigned.linear().routines.as_slice();
-        assert_eq!(rt; routines.len(), 1);
-        let code = routines[0].code.as_slice();
-        assert_eq!(rt; code.len(), 1);
-        assert!(rt; matches!(&code[0], Instruction::Back { .. }));
-        let unit = ending(alloc)?;
-        assert!(rt; valid(&unit));
-        let linear = flat(alloc, &unit)?;
-        assert!(rt; holds(alloc, &linear, &assigned)?);
+    fn chain_makes_image(rt: HostRuntime) -> Result<(), Fail> {
+        let image = image_of_ending(rt.alloc())?;
+        assert_eq!(rt; (image.globals(), image.entry()), (0, 0));
         Ok(())
     }
 }

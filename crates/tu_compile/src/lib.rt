@@ -3,12 +3,14 @@
 
 mod assign;
 mod chain;
+mod emit;
 pub mod example;
 mod flat;
 mod laws;
 
 pub use assign::Assign;
-pub use chain::{Chain, placed};
+pub use chain::{Chain, Middle, image};
+pub use emit::Emit;
 pub use flat::Flat;
 pub use laws::{
     fits_where_placed, lawful_assigned_never_faults, lawful_linear_never_faults,

@@ -1,4 +1,9 @@
 mod Rows
+mod Sources
+mod ProgramRows
+pub mod Alike
+pub mod Forms
+pub mod ProgramLaws
 pub mod Over
 pub mod Grouping
 pub mod Turns

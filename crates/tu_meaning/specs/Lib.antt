@@ -4,3 +4,10 @@ pub mod Run
 pub mod Prefix
 pub mod Meaning
 pub mod Laws
+pub mod Values
+pub mod Operators
+pub mod Store
+pub mod Rooms
+pub mod Interpreter
+pub mod Programs
+pub mod ProgramLaws

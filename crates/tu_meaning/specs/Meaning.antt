@@ -1,5 +1,5 @@
 -- The meaning of a program within a number of turns.
-use Rattle.std.specs.Prelude.{ℕ, List, Option}
+use Rattle.std.specs.Prelude.{ℕ, List, [], Option, None}
 use Rattle.tu_base.specs.Files.{Files}
 use Rattle.tu_base.specs.Trace.{Trace}
 use Rattle.tu_base.specs.declared.event.Verdict.{Verdict}
@@ -25,7 +25,7 @@ meant r = record { trace = r.0.trace; verdict = verdict_of r.1; units = r.0.unit
 
 -- A program begins with nothing stored, as there are no variables. No turn has begun, and no room is counted, as there are no calls.
 abbrev pub start : State (Unit {0})
-start = record { store = tt; counts = record { turns = 0; rooms = 0 } }
+start = record { store = tt; counts = record { turns = 0; rooms = 0 }; outside = record { input = []; files = None } }
 
 -- The meaning within t turns, on an input and with files that can be opened, or with none that can where all files are closed. A list of
 -- `put` statements begins no turn, reads nothing and opens nothing.

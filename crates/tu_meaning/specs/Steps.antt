@@ -1,6 +1,7 @@
 -- What a step of a program does. From a state it leads to another and gives a value, or raises an exception, or runs out of
 -- turns. What it adds to the trace and to the units stands beside that, so a program can only add to both.
-use Rattle.std.specs.Prelude.{ℕ, ◌+◌, [], ◌++◌, nat_lt, nat_le, if◌then◌else◌}
+use Rattle.std.specs.Prelude.{ℕ, ◌+◌, List, [], ◌++◌, Option, nat_lt, nat_le, if◌then◌else◌}
+use Rattle.tu_base.specs.Files.{Files}
 use Rattle.tu_base.specs.Trace.{Trace}
 use Rattle.tu_base.specs.declared.kind.Kind.{Kind}
 use Rattle.tu_base.specs.declared.kind.Kind.TheVariants.{Storage}
@@ -22,10 +23,16 @@ pub record Counts : Type 0 where
   pub turns : ℕ
   pub rooms : ℕ
 
+-- what can still come from outside: the input that was not read, and the files that can be opened, unless all are closed
+pub record Outside : Type 0 where
+  pub input : List ℕ
+  pub files : Option Files
+
 -- where a program stands; S is the type of what it stores
 pub record State (S : Type 0) : Type 0 where
   pub store : S
   pub counts : Counts
+  pub outside : Outside
 
 -- a value, an exception with the line that raised it, or no turn is left; each with the state that it leaves
 pub data Outcome (S A : Type 0) : Type 0 where

@@ -1,0 +1,105 @@
+use crate::images::{Left, image_of, left_by};
+use crate::units::{digits, far_jump, literal, many_values, recursion, summing, turned};
+use ir_form::{Unit, valid};
+use rv_alloc::assign;
+use rv_emit::text_words;
+use rv_flat::flat;
+use rv_host::HostEnd;
+use std::alloc::Global;
+use std::test::Fail;
+use tu_base::{Kind, Memory};
+
+fn left_of(alloc: Global, unit: &Unit) -> Result<Option<Left>, Memory> {
+    let image = image_of(alloc, unit)?;
+    match image {
+        Some(image) => Ok(Some(left_by(alloc, &image)?)),
+        None => Ok(None),
+    }
+}
+
+// Whether a unit is valid, and its image ends so and puts these bytes.
+fn does(alloc: Global, unit: &Unit, end: HostEnd, output: &[u8]) -> Result<bool, Memory> {
+    let left = left_of(alloc, unit)?;
+    match left {
+        Some(left) => {
+            let same = left.end == end;
+            Ok(valid(unit) && same && left.output.as_slice() == output)
+        },
+        None => Ok(false),
+    }
+}
+
+#[test]
+fn loops_put_digits(rt: HostRuntime) -> Result<(), Fail> {
+    let alloc = rt.alloc();
+    let unit = digits(alloc)?;
+    assert!(rt; does(alloc, &unit, HostEnd::Ended, b"0123456789")?);
+    // The sum is 55.
+    let unit = summing(alloc, 10)?;
+    assert!(rt; does(alloc, &unit, HostEnd::Ended, b"7")?);
+    Ok(())
+}
+
+const STORAGE: HostEnd = HostEnd::Stopped {
+    kind: Kind::Storage,
+    line: 3,
+};
+
+const RECURSIONS: [(u32, HostEnd); 2] = [(52102, HostEnd::Ended), (52103, STORAGE)];
+
+#[test]
+fn recursion_ends_in_storage(rt: HostRuntime) -> Result<(), Fail> {
+    let alloc = rt.alloc();
+    for (depth, end) in RECURSIONS {
+        let unit = recursion(alloc, depth)?;
+        assert!(rt; does(alloc, &unit, end, b"")?, "at {depth}");
+    }
+    Ok(())
+}
+
+#[test]
+fn values_are_far(rt: HostRuntime) -> Result<(), Fail> {
+    let alloc = rt.alloc();
+    let unit = many_values(alloc, 3000)?;
+    assert!(rt; does(alloc, &unit, HostEnd::Ended, b"0")?);
+    Ok(())
+}
+
+#[test]
+fn jumps_are_far(rt: HostRuntime) -> Result<(), Fail> {
+    let alloc = rt.alloc();
+    let unit = far_jump(alloc, 70000)?;
+    assert!(rt; does(alloc, &unit, HostEnd::Ended, b"bb")?);
+    let linear = flat(alloc, &unit)?;
+    let words = text_words(&assign(alloc, &linear)?);
+    assert!(rt; words > 300000);
+    Ok(())
+}
+
+const TURNED: [(&[u32], &[u8]); 3] = [
+    (&[97], b"aaaaaaa"),
+    (&[97, 98], b"abababa"),
+    (&[97, 98, 99], b"abcabca"),
+];
+
+#[test]
+fn values_are_handed_at_once(rt: HostRuntime) -> Result<(), Fail> {
+    let alloc = rt.alloc();
+    for (letters, output) in TURNED {
+        let unit = turned(alloc, letters)?;
+        assert!(rt; does(alloc, &unit, HostEnd::Ended, output)?);
+    }
+    Ok(())
+}
+
+#[test]
+fn literal_is_put_before_exception(rt: HostRuntime) -> Result<(), Fail> {
+    let alloc = rt.alloc();
+    let unit = literal(alloc)?;
+    let end = HostEnd::Stopped {
+        kind: Kind::Assert,
+        line: 70000,
+    };
+    assert!(rt; does(alloc, &unit, end, b"bcd")?);
+    Ok(())
+}
