@@ -68,7 +68,7 @@ fn values_are_far(rt: HostRuntime) -> Result<(), Fail> {
 #[test]
 fn jumps_are_far(rt: HostRuntime) -> Result<(), Fail> {
     let alloc = rt.alloc();
-    let unit = far_jump(alloc, 70000)?;
+    let unit = far_jump(alloc, 62000)?;
     assert!(rt; does(alloc, &unit, HostEnd::Ended, b"bb")?);
     let linear = flat(alloc, &unit)?;
     let words = text_words(&assign(alloc, &linear)?);
@@ -76,17 +76,38 @@ fn jumps_are_far(rt: HostRuntime) -> Result<(), Fail> {
     Ok(())
 }
 
-const TURNED: [(&[u32], &[u8]); 3] = [
-    (&[97], b"aaaaaaa"),
-    (&[97, 98], b"abababa"),
-    (&[97, 98, 99], b"abcabca"),
+// The letters, what the first round takes, its parameters, what the next round takes, and the output.
+type Turn = (
+    &'static [(u32, u32)],
+    &'static [u32],
+    &'static [u32],
+    &'static [u32],
+    &'static [u8],
+);
+
+const TURNS: [Turn; 3] = [
+    (&[(10, 97)], &[2, 10], &[4, 100], &[5, 100], b"aaaaaaa"),
+    (
+        &[(10, 97), (11, 98)],
+        &[2, 10, 11],
+        &[4, 100, 101],
+        &[5, 101, 100],
+        b"abababa",
+    ),
+    (
+        &[(10, 97), (11, 98), (12, 99)],
+        &[2, 10, 11, 12],
+        &[4, 100, 101, 102],
+        &[5, 101, 102, 100],
+        b"abcabca",
+    ),
 ];
 
 #[test]
 fn values_are_handed_at_once(rt: HostRuntime) -> Result<(), Fail> {
     let alloc = rt.alloc();
-    for (letters, output) in TURNED {
-        let unit = turned(alloc, letters)?;
+    for (letters, start, parameters, results, output) in &TURNS {
+        let unit = turned(alloc, letters, start, parameters, results)?;
         assert!(rt; does(alloc, &unit, HostEnd::Ended, output)?);
     }
     Ok(())

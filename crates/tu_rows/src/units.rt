@@ -68,27 +68,31 @@ pub fn recursion(alloc: Global, depth: u32) -> Result<Unit, Memory> {
 
 /// As many values and three more: each is one more than the one before it, and the last of them less 2,951 is put as a
 /// byte.
-pub fn many_values(alloc: Global, count: u32) -> Result<Unit, Memory> {
+pub fn many_values(alloc: Global, count: u16) -> Result<Unit, Memory> {
     let mut body = main_body(alloc)?;
+    let mut last = 1;
     for value in 2..count {
-        body.ops.push(sum(value, value - 1, 1))?;
+        let next = u32::from(value);
+        body.ops.push(sum(next, last, 1))?;
+        last = next;
     }
-    body.ops.push(constant(count, 2951))?;
-    body.ops.push(difference(count + 1, count - 1, count))?;
-    put_byte(&mut body, 0, 1, count + 1, count + 2)?;
+    let behind = u32::from(count);
+    body.ops.push(constant(behind, 2951))?;
+    body.ops.push(difference(behind + 1, last, behind))?;
+    put_byte(&mut body, 0, 1, behind + 1, behind + 2)?;
     unit_of(alloc, body, 100000)
 }
 
 /// A choice with so many constants on one side, which puts `a`. The other side, which is taken, puts `b`, and behind it
 /// the same byte is put again.
-pub fn far_jump(alloc: Global, count: u32) -> Result<Unit, Memory> {
+pub fn far_jump(alloc: Global, count: u16) -> Result<Unit, Memory> {
     let mut body = main_body(alloc)?;
     body.ops.push(constant(2, 97))?;
     body.ops.push(constant(3, 98))?;
     let mut yes = region(alloc, &[], &[])?;
     put_byte(&mut yes, 0, 1, 2, 4)?;
     for value in 0..count {
-        yes.ops.push(constant(7 + value, 0x1234_5678))?;
+        yes.ops.push(constant(7 + u32::from(value), 0x1234_5678))?;
     }
     let mut no = region(alloc, &[], &[])?;
     put_byte(&mut no, 0, 1, 3, 5)?;
@@ -99,29 +103,28 @@ pub fn far_jump(alloc: Global, count: u32) -> Result<Unit, Memory> {
     unit_of(alloc, body, 1000000)
 }
 
-/// Seven rounds that each put the first of some letters, and hand the letters on turned by one place.
-pub fn turned(alloc: Global, letters: &[u32]) -> Result<Unit, Memory> {
-    let count = letters.len() as u32;
+/// Seven rounds that each put value 100 as a byte, a parameter of the round. The first of `start` is value 2, which counts
+/// the rounds, and the others are letters; the first of `parameters` is value 4, and that of `results` value 5.
+pub fn turned(
+    alloc: Global,
+    letters: &[(u32, u32)],
+    start: &[u32],
+    parameters: &[u32],
+    results: &[u32],
+) -> Result<Unit, Memory> {
     let mut body = main_body(alloc)?;
     body.ops.push(constant(2, 7))?;
     body.ops.push(constant(3, 0))?;
-    let mut start = vec![in alloc; 2]?;
-    let mut parameters = vec![in alloc; 4]?;
-    let mut results = vec![in alloc; 5]?;
-    for (at, letter) in letters.iter().enumerate() {
-        let at = at as u32;
-        body.ops.push(constant(10 + at, *letter))?;
-        start.push(10 + at)?;
-        parameters.push(100 + at)?;
-        results.push(100 + (at + 1) % count)?;
+    for (value, letter) in letters {
+        body.ops.push(constant(*value, *letter))?;
     }
-    let mut round = region(alloc, &parameters, &results)?;
+    let mut round = region(alloc, parameters, results)?;
     put_byte(&mut round, 0, 1, 100, 6)?;
     round.ops.push(difference(5, 4, 1))?;
     round
         .ops
         .push(leave_where(alloc, Relation::Equal, 5, 3, &[])?)?;
-    body.ops.push(repeat(alloc, &start, round, &[])?)?;
+    body.ops.push(repeat(alloc, start, round, &[])?)?;
     unit_of(alloc, body, 200)
 }
 
