@@ -92,14 +92,16 @@ pub fn far_jump(alloc: Global, count: u16) -> Result<Unit, Memory> {
     let mut yes = region(alloc, &[], &[])?;
     put_byte(&mut yes, 0, 1, 2, 4)?;
     for value in 0..count {
-        yes.ops.push(constant(7 + u32::from(value), 0x1234_5678))?;
+        yes.ops.push(constant(5 + u32::from(value), 0x1234_5678))?;
     }
     let mut no = region(alloc, &[], &[])?;
-    put_byte(&mut no, 0, 1, 3, 5)?;
+    put_byte(&mut no, 0, 1, 3, 5 + u32::from(count))?;
     body.ops
         .push(choice(alloc, Relation::Equal, 0, 1, yes, no))?;
-    body.ops
-        .push(ask(6, Service::PutConsole { at: 0, length: 1 }))?;
+    body.ops.push(ask(
+        6 + u32::from(count),
+        Service::PutConsole { at: 0, length: 1 },
+    ))?;
     unit_of(alloc, body, 1000000)
 }
 
