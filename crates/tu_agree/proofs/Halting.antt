@@ -6,12 +6,12 @@ use Rattle.rv_image.specs.Start.{no_registers}
 use Rattle.rv_image.specs.Streams.{Folder, start_world}
 use Rattle.rv_image.specs.Run.{Ended, Going, machine_run, run}
 use Rattle.tu_meaning.specs.Steps.{give}
-use Rattle.tu_meaning.specs.Meaning.{meaning}
+use Rattle.tu_meaning.specs.Programs.{meaning}
 use Rattle.tu_meaning.specs.Prefix.{IsPrefix}
 use Rattle.tu_agree.specs.Agrees.{over_folder}
 use Rattle.tu_agree.specs.Outcomes.{Outcome, outcome_ran, program_meant, image_meant}
 use Rattle.tu_agree.specs.Keep.{Eventually, KeepsRun, KeepsInstructions}
-use Rattle.tu_agree.specs.Example.{stands, halting}
+use Rattle.tu_agree.specs.Example.{empty_program, stands, halting}
 
 halts : (input : List ℕ) (folder : Folder) (n : ℕ) → machine_run halting input folder (suc n) ≡ record { verdict = Ended; count = 1; world = start_world input }
 unfolding run step decoding with_any no_registers
@@ -51,7 +51,7 @@ keeps_run input folder (suc n) = subst (λ r. KeepsRun 1 1 (suc n) (λ t s. ende
   paid = λ going. cc;
 }
 
-pub halt_keeps : KeepsInstructions 1 1 (program_meant (over_folder (meaning []))) (image_meant halting)
+pub halt_keeps : KeepsInstructions 1 1 (program_meant (over_folder (meaning empty_program))) (image_meant halting)
 unfolding give ended
 halt_keeps = record {
   first_global = 0;

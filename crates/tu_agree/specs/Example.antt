@@ -1,8 +1,12 @@
 -- Three codes that write bytes, from a text to what a small machine runs, and the smallest image.
 use Rattle.std.specs.Prelude.{ℕ, zero, suc, ◌+◌, nat_le, List, [], ◌∷◌, reverse}
+use Rattle.grammar.specs.Tree.{no_mark}
 use Rattle.tu_base.specs.Trace.{Put}
 use Rattle.rv_image.specs.Picture.{Picture}
 use Rattle.rv_image.specs.Run.{MachineVerdict, Ended, Going}
+use Rattle.tu_token.specs.Rules.{r-program}
+use Rattle.tu_token.specs.Syntax.{Of}
+use Rattle.tu_tree.specs.Forms.{NoMore, Program}
 use Rattle.tu_agree.specs.Outcomes.{Outcome, Meaning, by_turns}
 
 -- how a code stands that does no more, at a cost
@@ -45,6 +49,10 @@ ran (byte ∷ bytes) zero (suc n) = wrote byte 1 (ran bytes 5 n)
 
 abbrev pub words_meant : List ℕ → Meaning
 words_meant bytes = by_turns (λ input folder n. ran bytes 5 n)
+
+-- a program without items
+abbrev pub empty_program : Of r-program
+empty_program = Program no_mark NoMore
 
 -- an image whose only instruction asks for the end
 abbrev pub halting : Picture

@@ -4,10 +4,10 @@
 ghost use Rattle.std.proofs.Common.{lit<};
 ghost use Rattle.std.specs.Prelude.{◌≡◌, [], refl, IfOk};
 ghost use Rattle.tu_agree.specs.Agrees.{Agrees, over_folder};
-ghost use Rattle.tu_agree.specs.Example.{text_meant, stack_meant, words_meant, halting};
+ghost use Rattle.tu_agree.specs.Example.{empty_program, text_meant, stack_meant, words_meant, halting};
 ghost use Rattle.tu_agree.specs.Keep.{Instructions, KeepsInstructions, Turns};
 ghost use Rattle.tu_agree.specs.Outcomes.{image_meant, program_meant};
-ghost use Rattle.tu_meaning.specs.Meaning.{meaning};
+ghost use Rattle.tu_meaning.specs.Programs.{meaning};
 
 use crate::{Both, Follows, Pass, compile};
 use rv_image::Image;
@@ -167,7 +167,7 @@ impl Pass for Halt {
 
     ghost START = { 1 };
 
-    ghost meant_before = { λ _. program_meant (over_folder (meaning [])) };
+    ghost meant_before = { λ _. program_meant (over_folder (meaning empty_program)) };
 
     ghost meant_after = { image_meant };
 
@@ -184,7 +184,7 @@ impl Pass for Halt {
 
 /// The image that ends at once.
 pub fn make_image(alloc: Global) -> Result<Image, Memory>
-    ensures { IfOk result (λ image. Agrees (over_folder (meaning [])) image) }
+    ensures { IfOk result (λ image. Agrees (over_folder (meaning empty_program)) image) }
 {
     compile::<Halt>(alloc, &Nothing)
 }

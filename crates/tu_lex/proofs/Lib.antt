@@ -8,3 +8,4 @@ pub mod Faults
 pub mod Lines
 pub mod Turns
 pub mod Steps
+pub mod Whole

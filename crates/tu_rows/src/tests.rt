@@ -1,7 +1,7 @@
 use crate::images::{Left, image_of, left_by};
 use crate::units::{digits, far_jump, literal, many_values, recursion, summing, turned};
 use ir_form::{Unit, valid};
-use rv_alloc::assign;
+use rv_alloc::{assign, holds};
 use rv_emit::text_words;
 use rv_flat::flat;
 use rv_host::HostEnd;
@@ -17,13 +17,15 @@ fn left_of(alloc: Global, unit: &Unit) -> Result<Option<Left>, Memory> {
     }
 }
 
-// Whether a unit is valid, and its image ends so and puts these bytes.
+// Whether a unit is valid, its code is assigned so that it holds, and its image ends so and puts these bytes.
 fn does(alloc: Global, unit: &Unit, end: HostEnd, output: &[u8]) -> Result<bool, Memory> {
+    let linear = flat(alloc, unit)?;
+    let is_assigned = holds(alloc, &linear, &assign(alloc, &linear)?)?;
     let left = left_of(alloc, unit)?;
     match left {
         Some(left) => {
-            let same = left.end == end;
-            Ok(valid(unit) && same && left.output.as_slice() == output)
+            let same = left.end == end && left.output.as_slice() == output;
+            Ok(valid(unit) && is_assigned && same)
         },
         None => Ok(false),
     }

@@ -8,17 +8,18 @@ use Rattle.tu_outside.specs.Files.{with_file}
 use Rattle.rv_image.specs.Picture.{Picture, spelling}
 use Rattle.rv_image.specs.Streams.{Holding}
 use Rattle.rv_image.specs.Run.{machine_run}
-use Rattle.tu_meaning.specs.Tree.{Statement}
-use Rattle.tu_meaning.specs.Meaning.{meaning}
+use Rattle.tu_token.specs.Rules.{r-program}
+use Rattle.tu_token.specs.Syntax.{Of}
+use Rattle.tu_meaning.specs.Programs.{meaning}
 use Rattle.tu_meaning.specs.Laws.{IsFinal}
 use Rattle.tu_agree.specs.Laws.{MeaningIsRun}
 use Rattle.tu_run.specs.declared.report.Report.{Report}
 use Rattle.tu_run.specs.declared.report.Status.{Status}
 use Rattle.tu_run.specs.declared.report.Status.TheVariants.{Ended, Stopped, Refused, Usage, NoFile, BadImage, Spent, ConsoleFault, CabinetFault, NoteFault, OutOfMemory, MachineFault}
-use Rattle.tu_run.specs.Outside.{Outside, Tells}
+use Rattle.tu_run.specs.Outside.{Outside, Tells, HoldsFile}
 use Rattle.tu_run.specs.Ran.{RunsImage, verdict_shown}
-use Rattle.tu_run.specs.Answer.{Exactly, AnswersSource, AnswersRun, AnswersBuild, AnswersExec, AnswersAny, is_of_run, is_of_source, is_of_image, is_of_files, yields_to}
-use Rattle.tu_run.specs.Made.{MakesImage, ReadsImage}
+use Rattle.tu_run.specs.Answer.{Exactly, IsAcceptedSource, IsCompiled, AnswersSource, AnswersImage, AnswersRun, AnswersCheck, AnswersBuild, AnswersExec, AnswersAny, is_of_run, is_of_source, is_of_image, is_of_files, yields_to}
+use Rattle.tu_run.specs.Made.{ReadsSource, MakesImage, ReadsImage}
 use Rattle.tu_run.proofs.Verdicts.{shown_by}
 use Rattle.tu_run.proofs.Meant.{leaves_meant}
 
@@ -92,9 +93,6 @@ files_run NoteFault e = absurd (cc e)
 files_run OutOfMemory e = (refl, refl)
 files_run (MachineFault kind pc) e = absurd (cc e)
 
-fails_not_ended : (status : Status) → (is_of_source status || is_of_files status) ≡ true → status ≡ Ended → ⊥
-fails_not_ended status k e = let f : (is_of_source status || is_of_files status) ≡ false = ap (λ s. is_of_source s || is_of_files s) e in cc (k, f)
-
 -- a status is Ended, or it is not
 is_ended : (status : Status) → (status ≡ Ended) ⊎ (status ≢ Ended)
 is_ended Ended = inl refl
@@ -124,58 +122,53 @@ shown_verdict image other budget before after status count input events files sa
     s.is ∙ ap Some (sym whole.ends ∙ ap (λ p. (machine_run p input (Holding files) budget).verdict) same)
 
 -- a report with an image that was made
-pub made_source : (file : List ℕ) (before : Outside) (report : Report) (image : Picture) → MakesImage before.files file (Ok image) → report.image ≡ Some image → is_of_run report.status ≡ true → AnswersSource file before report
-made_source file before report image m is on = record {
-  no_file = λ files known. apart NoFile report.status _ refl on (m.no_file files known);
-  refused = λ source refusal h. apart (Refused refusal) report.status _ refl on (m.refused source refusal h);
-  image_agrees = λ source other h e. let same : image ≡ other = cc (is, e) in m.compiled source other h (ap Ok same);
+pub made_source : (file : List ℕ) (before : Outside) (report : Report) (image : Picture) → MakesImage before.files file (Ok image) → is_of_run report.status ≡ true → AnswersSource file before report
+made_source file before report image m on = record {
+  no_file = λ files known. apart NoFile report.status _ refl on (m.read.no_file files known);
+  refused = λ source refusal h. apart (Refused refusal) report.status _ refl on (m.read.refused source refusal h);
+}
+
+compiled_as : (file : List ℕ) (told : Option Files) (image : Picture) → MakesImage told file (Ok image) → (source : List ℕ) → HoldsFile told file source → IsCompiled source image
+compiled_as file told image m source h = let a = (m.read.ended source h).only refl in record { tree = a.0; accepted = a.1; image_agrees = m.all source image a.0 h refl a.1 }
+
+pub made_image : (file : List ℕ) (before : Outside) (report : Report) (image : Picture) → MakesImage before.files file (Ok image) → report.image ≡ Some image → AnswersImage file before report
+made_image file before report image m is = record {
+  image_agrees = λ source other h e. let same : image ≡ other = cc (is, e) in subst (λ p. IsCompiled source p) same (compiled_as file before.files image m source h);
   has_image = λ source h a y none. cc (is, none);
 }
 
 -- a report of a source of which no image was made
-pub none_source : (file : List ℕ) (before : Outside) (status : Status) → MakesImage before.files file (Err status) → AnswersSource file before (record { status = status; image = None; instructions = 0 })
-none_source file before status m = record {
-  no_file = m.no_file;
-  refused = m.refused;
+pub none_source : {A : Type 0} (file : List ℕ) (before : Outside) (status : Status) → ReadsSource {A = A} before.files file (Err status) → AnswersSource file before (record { status = status; image = None; instructions = 0 })
+none_source file before status r = record { no_file = r.no_file; refused = r.refused }
+
+fails_not_ended : (status : Status) → (is_of_source status || is_of_files status) ≡ true → status ≡ Ended → ⊥
+fails_not_ended status k e = let f : (is_of_source status || is_of_files status) ≡ false = ap (λ s. is_of_source s || is_of_files s) e in cc (k, f)
+
+-- an accepted source gives way only to a status to which all yield
+accepted_yields : {A : Type 0} (told : Option Files) (file source : List ℕ) (status : Status) → ReadsSource {A = A} told file (Err status) → HoldsFile told file source → IsAcceptedSource source → yields_to status ≡ false → ⊥
+accepted_yields told file source status r h a y = fails_not_ended status (r.kind status refl) ((r.ended source h).always a y)
+
+pub none_image : (file : List ℕ) (before : Outside) (status : Status) → MakesImage before.files file (Err status) → AnswersImage file before (record { status = status; image = None; instructions = 0 })
+none_image file before status m = record {
   image_agrees = λ source other h e. absurd (cc e);
-  has_image = λ source h a y none. let yields = m.has_image source h a status refl in cc (yields, y);
+  has_image = λ source h a y none. accepted_yields before.files file source status m.read h a y;
 }
 
-pub run_answers : MeaningIsRun → ((program : List Statement) → IsFinal (meaning program)) → (file : List ℕ) (budget : ℕ) (before after : Outside) (report : Report) (image : Picture) (files : Option Files) (faults : ℕ) →
+pub run_answers : MeaningIsRun → ((tree : Of r-program) → IsFinal (meaning tree)) → (file : List ℕ) (budget : ℕ) (before after : Outside) (report : Report) (image : Picture) (files : Option Files) (faults : ℕ) →
     MakesImage before.files file (Ok image) → files ≡ before.files → report.image ≡ Some image → is_of_run report.status ≡ true →
     RunsImage image budget (behind_fetch before files faults) after report.status report.instructions → AnswersRun file budget before after report
 run_answers law final file budget before after report image files faults m same is on r = record {
   kind = or_left (is_of_run report.status) (is_of_source report.status) on;
-  source = made_source file before report image m is on;
+  source = made_source file before report image m on;
+  made = made_image file before report image m is;
+  image_shows = λ none. absurd (cc (is, none));
   run_of_image = λ other e.
       let eq : image ≡ other = cc (is, e) in
       subst (λ i. RunsImage i budget before after report.status report.instructions) eq (runs_before image budget before after report.status report.instructions files faults same r);
-  leaves = λ source program h size b input events known t y.
+  leaves = λ source tree h a input events known t y.
       let s = shown_by report.status on y in
       let whole = ((runs_before image budget before after report.status report.instructions files faults same r).told input events known t).run_of_image s.verdict s.is in
-      leaves_meant law (meaning program) (final program) image (m.all source image program h refl b) input known budget report.instructions report.status events after s.verdict s.is whole;
-}
-
-pub run_failed : (file : List ℕ) (budget : ℕ) (before after : Outside) (status : Status) → MakesImage before.files file (Err status) → AnswersRun file budget before after (record { status = status; image = None; instructions = 0 })
-run_failed file budget before after status m =
-    let k = m.kind status refl in
-    record {
-      kind = run_or_source status k;
-      source = none_source file before status m;
-      run_of_image = λ other e. absurd (cc e);
-      leaves = λ source program h size b input events known t y. absurd (let yields = m.has_image source h (size, (program, b)) status refl in cc (yields, y));
-    }
-
--- nothing was done, and a fetch may have failed
-pub nothing_done : (before : Outside) (status : Status) (files : Option Files) (faults : ℕ) → files ≡ before.files → before.cabinet_faults ≤ faults → verdict_shown status ≡ None → status ≢ ConsoleFault →
-    (status ≡ CabinetFault → Rose before.cabinet_faults faults) → AnswersAny before (behind_fetch before files faults) (record { status = status; image = None; instructions = 0 })
-nothing_done before status files faults same later shows console fault = record {
-  none_made = λ _. refl;
-  untouched = λ _. record { left = refl; events = refl; files = same; none = refl };
-  image_shows = λ _. shows;
-  console_fault = λ e. absurd (console e);
-  cabinet_fault = fault;
-  later = (omega arith, later);
+      leaves_meant law (meaning tree) (final tree) image (m.all source image tree h refl a) input known budget report.instructions report.status events after s.verdict s.is whole;
 }
 
 pub fails_shows : (status : Status) → (is_of_source status || is_of_files status) ≡ true → (verdict_shown status ≡ None) × (status ≢ ConsoleFault)
@@ -206,6 +199,29 @@ read_shows NoteFault e = absurd (cc e)
 read_shows OutOfMemory e = (refl, λ q. cc q)
 read_shows (MachineFault kind pc) e = absurd (cc e)
 
+pub run_failed : (file : List ℕ) (budget : ℕ) (before after : Outside) (status : Status) → MakesImage before.files file (Err status) → AnswersRun file budget before after (record { status = status; image = None; instructions = 0 })
+run_failed file budget before after status m =
+    let k = m.read.kind status refl in
+    record {
+      kind = run_or_source status k;
+      source = none_source file before status m.read;
+      made = none_image file before status m;
+      image_shows = λ _. (fails_shows status k).0;
+      run_of_image = λ other e. absurd (cc e);
+      leaves = λ source tree h a input events known t y. absurd (accepted_yields before.files file source status m.read h (tree, a) y);
+    }
+
+-- nothing was done, and a fetch may have failed
+pub nothing_done : (before : Outside) (status : Status) (files : Option Files) (faults : ℕ) → files ≡ before.files → before.cabinet_faults ≤ faults → status ≢ ConsoleFault →
+    (status ≡ CabinetFault → Rose before.cabinet_faults faults) → AnswersAny before (behind_fetch before files faults) (record { status = status; image = None; instructions = 0 })
+nothing_done before status files faults same later console fault = record {
+  none_made = λ _. refl;
+  untouched = λ _. record { left = refl; events = refl; files = same; none = refl };
+  console_fault = λ e. absurd (console e);
+  cabinet_fault = fault;
+  later = (omega arith, later);
+}
+
 pub exec_answers : (file : List ℕ) (budget : ℕ) (before after : Outside) (report : Report) (image : Picture) (files : Option Files) (faults : ℕ) →
     ReadsImage before.files file (Ok image) → files ≡ before.files → report.image ≡ Some image → is_of_run report.status ≡ true →
     RunsImage image budget (behind_fetch before files faults) after report.status report.instructions → AnswersExec file budget before after report
@@ -216,6 +232,7 @@ exec_answers file budget before after report image files faults m same is on r =
   no_memory = λ e. let f : is_of_run report.status ≡ false = ap is_of_run e in cc (on, f);
   image_is_read = λ bytes other h e. let eq : image ≡ other = cc (is, e) in m.is_read bytes other h (ap Ok eq);
   has_image = λ bytes other h i y. let eq : Ok image ≡ Ok other = m.has_image bytes other h i refl in let s : image ≡ other = cc eq in is ∙ ap Some s;
+  image_shows = λ none. absurd (cc (is, none));
   exec_runs_image = λ other e.
       let eq : image ≡ other = cc (is, e) in
       subst (λ i. RunsImage i budget before after report.status report.instructions) eq (runs_before image budget before after report.status report.instructions files faults same r);
@@ -236,6 +253,7 @@ exec_failed file budget before after status m =
       no_memory = λ e. m.no_memory (ap Err e);
       image_is_read = λ bytes other h e. absurd (cc e);
       has_image = λ bytes other h i y. absurd (let e : Err status ≡ Ok other = m.has_image bytes other h i y in cc e);
+      image_shows = λ _. (read_shows status k).0;
       exec_runs_image = λ other e. absurd (cc e);
       completes = λ bytes other h i input events known t y. absurd (let e : Err status ≡ Ok other = m.has_image bytes other h i y in cc e);
     }
@@ -245,9 +263,10 @@ pub build_answers : (file name : List ℕ) (before after : Outside) (report : Re
     after.left ≡ before.left → after.events ≡ before.events → AnswersBuild file name before after report
 build_answers file name before after report image m is none kind kept same left events = record {
   kind = λ off. or_right (is_of_source report.status) (is_of_files report.status) (kind off);
-  source = made_source file before report image m is (kept_runs report.status kind);
+  source = made_source file before report image m (kept_runs report.status kind);
+  made = made_image file before report image m is;
   ended = λ source h. record {
-    only = λ _. let k = m.compiled source image h refl in (k.size, (k.program, k.built));
+    only = λ _. (m.read.ended source h).only refl;
     always = λ _ y. kept_unless report.status kind y;
   };
   build_keeps_image = λ e. record { picture = image; is = is; kept = kept e };
@@ -260,17 +279,36 @@ build_answers file name before after report image m is none kind kept same left 
 pub build_failed : (file name : List ℕ) (before after : Outside) (status : Status) → MakesImage before.files file (Err status) → after.files ≡ before.files → after.left ≡ before.left → after.events ≡ before.events →
     AnswersBuild file name before after (record { status = status; image = None; instructions = 0 })
 build_failed file name before after status m same left events =
-    let k = m.kind status refl in
+    let k = m.read.kind status refl in
     record {
       kind = λ _. k;
-      source = none_source file before status m;
-      ended = λ source h. record {
-        only = λ e. absurd (fails_not_ended status k e);
-        always = λ a y. absurd (let yields = m.has_image source h a status refl in cc (yields, y));
-      };
+      source = none_source file before status m.read;
+      made = none_image file before status m;
+      ended = m.read.ended;
       build_keeps_image = λ e. absurd (fails_not_ended status k e);
       unchanged = λ _. same;
       left = left;
       events = events;
       none = refl;
     }
+
+-- a source that was checked, or not
+pub check_answers : {A : Type 0} (file : List ℕ) (before : Outside) (files : Option Files) (faults : ℕ) (made : A) → ReadsSource before.files file (Ok made) → files ≡ before.files
+    → AnswersCheck file before (behind_fetch before files faults) (record { status = Ended; image = None; instructions = 0 })
+check_answers file before files faults made r same = record {
+  kind = λ off. absurd (off refl);
+  source = record { no_file = r.no_file; refused = r.refused };
+  check_accepts = r.ended;
+  none_made = refl;
+  untouched = record { left = refl; events = refl; files = same; none = refl };
+}
+
+pub check_failed : {A : Type 0} (file : List ℕ) (before : Outside) (files : Option Files) (faults : ℕ) (status : Status) → ReadsSource {A = A} before.files file (Err status) → files ≡ before.files
+    → AnswersCheck file before (behind_fetch before files faults) (record { status = status; image = None; instructions = 0 })
+check_failed file before files faults status r same = record {
+  kind = λ _. r.kind status refl;
+  source = none_source file before status r;
+  check_accepts = r.ended;
+  none_made = refl;
+  untouched = record { left = refl; events = refl; files = same; none = refl };
+}

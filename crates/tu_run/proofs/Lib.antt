@@ -1,26 +1,7 @@
-pub mod Values
-pub mod Prefix
-pub mod Lexing
-pub mod Reading
-pub mod ReadingPrograms
-pub mod ValueSteps
-pub mod ValueLoop
-pub mod ValueOutput
 pub mod Budgets
-pub mod Lengths
-pub mod Places
-pub mod Output
-pub mod Stretch
-pub mod Fitting
-pub mod Pieces
-pub mod Whole
-pub mod Agreeing
 pub mod Answering
-pub mod Sources
 pub mod Making
 pub mod Commands
 pub mod Words
-pub mod Options
 pub mod Verdicts
 pub mod Meant
-mod Rows

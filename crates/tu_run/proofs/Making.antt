@@ -1,70 +1,82 @@
 -- What a file comes to.
-use Rattle.std.proofs.Common.{◌≡◌, ◌≢◌, ℕ, ◌<◌, ◌≤◌, true, false, cond, List, length, nat_le, inl, inr, Result, Ok, Err, refl, ap, sym, ◌∙◌, subst, arith}
+use Rattle.std.proofs.Common.{◌≡◌, ◌≢◌, ◌⊎◌, ℕ, ◌<◌, true, false, cond, ◌||◌, List, length, nat_le, inl, inr, Result, Ok, Err, refl, ap, sym, ◌∙◌, subst, arith}
 use Rattle.std.proofs.lemmas.Bool.{leb-false}
 use Rattle.std.specs.Prelude.{Option, Some, None}
 use Rattle.std.specs.FinMap as map
 use Rattle.tu_base.specs.Files.{Files}
 use Rattle.tu_outside.specs.Files.{IsFetched, fetched}
-use Rattle.tu_outside.specs.declared.cabinet.Fetched.TheVariants.{Whole, TooLong}
+use Rattle.tu_outside.specs.declared.cabinet.CabinetError.{CabinetError}
+use Rattle.tu_outside.specs.declared.cabinet.CabinetError.TheVariants.{Failed, Memory as cabinet_memory}
+use Rattle.tu_outside.specs.declared.cabinet.Fetched.TheVariants.{Whole, Absent, TooLong}
 use Rattle.rv_image.specs.Picture.{Picture, IsImage, InRange, spelling}
 use Rattle.rv_image.specs.Reading.{reading, Gives}
 use Rattle.rv_image.specs.declared.image.ImageError.{ImageError}
 use Rattle.rv_image.specs.declared.image.ImageError.TheVariants.{Size, Short, Magic, Version, Length, Entry, Globals, Memory}
-use Rattle.tu_meaning.specs.Tree.{Statement}
-use Rattle.tu_meaning.specs.Meaning.{meaning}
-use Rattle.tu_agree.specs.Agrees.{Agrees, over_folder, files_in, machine_verdict}
-use Rattle.tu_run.specs.declared.emitter.Finish.{Finish}
-use Rattle.tu_run.specs.declared.emitter.Finish.TheVariants.{Ended as finish_ended, Stopped as finish_stopped}
-use Rattle.tu_run.specs.declared.report.Refusal.{Refusal}
-use Rattle.tu_run.specs.declared.report.Refusal.TheVariants.{Size as refused_size, Types}
-use Rattle.tu_run.specs.declared.report.TypeError.TheVariants.{NotBuilt}
+use Rattle.tu_token.specs.declared.fault.Refusal.{Refusal}
+use Rattle.tu_token.specs.declared.fault.Refusal.TheVariants.{Size as refused_size}
+use Rattle.tu_token.specs.Rules.{r-program}
+use Rattle.tu_token.specs.Syntax.{Of}
+use Rattle.tu_check.specs.declared.error.CheckError.{CheckError}
+use Rattle.tu_check.specs.declared.error.CheckError.TheVariants.{Refused as check_refused, Memory as check_memory}
+use Rattle.tu_check.specs.Errors.{IsCause}
+use Rattle.tu_check.specs.Laws.{IsAcceptedOnce, IsRefusedOnce, IsNeverBoth}
+use Rattle.tu_check.specs.Refusals.{IsAccepted, IsRefused}
+use Rattle.tu_meaning.specs.Programs.{meaning}
+use Rattle.tu_agree.specs.Agrees.{Agrees, over_folder}
 use Rattle.tu_run.specs.declared.report.Status.{Status}
-use Rattle.tu_run.specs.declared.report.Status.TheVariants.{Refused, NoFile, BadImage, OutOfMemory}
-use Rattle.tu_run.specs.Outcome.{output_of, finish_of, verdict_of_finish}
-use Rattle.tu_run.specs.Runs.{IsOutput, picture_of, verdict_of_finish as machine_finish}
-use Rattle.tu_run.specs.Source.{IsBuilt, IsAccepted}
-use Rattle.tu_run.specs.Refusal.{IsRefused}
+use Rattle.tu_run.specs.declared.report.Status.TheVariants.{Ended, Refused, NoFile, BadImage, CabinetFault, OutOfMemory}
 use Rattle.tu_run.specs.Outside.{HoldsFile}
-use Rattle.tu_run.specs.Answer.{Exactly, IsCompiled, yields_to}
-use Rattle.tu_run.specs.Made.{Compiles, MakesImage, ReadsImage, status_after}
-use Rattle.tu_run.proofs.Agreeing.{emitted_agrees}
-use Rattle.tu_run.proofs.ValueSteps.{outcome_is_meant}
+use Rattle.tu_run.specs.Answer.{Exactly, IsAcceptedSource, is_of_files, is_of_source, yields_to}
+use Rattle.tu_run.specs.Made.{Fetches, Judges, Compiles, ReadsSource, MakesImage, ReadsImage, status_after, status_of_check}
 
--- a source that is no program
-pub none_compiled : (source : List ℕ) → ((program : List Statement) → IsBuilt source program → ⊥) → Compiles source (Err (Refused (Types (NotBuilt 1))))
-none_compiled source none = record {
-  kind = λ status e. inr (cc e);
-  not_built = λ _ a. none a.1.0 a.1.1;
-  compiled = λ image e. absurd (cc e);
-  all = λ image program e. absurd (cc e);
+-- a source is accepted once, or refused once, and never both
+pub record OneAnswer : Type 0 where
+  pub accepted : IsAcceptedOnce
+  pub refused : IsRefusedOnce
+  pub apart : IsNeverBoth
+
+err_is : {A : Type 0} (s t : Status) → ◌≡◌ {A = Result A Status} (Err s) (Err t) → s ≡ t
+err_is s t e = cc
+
+refusal_is : (r q : Refusal) → Refused r ≡ Refused q → r ≡ q
+refusal_is r q e = cc
+
+-- a source that is not checked, for this reason
+pub not_judged : {A : Type 0} (source : List ℕ) (error : CheckError) → IsCause source error → Judges {A = A} source (Err (status_of_check error))
+not_judged {A} source (check_refused refusal) h = record {
+  kind = λ status e. inr (refusal, sym (err_is {A = A} (Refused refusal) status e));
+  refused = λ other e. subst (λ r. IsRefused source r) (refusal_is refusal other (err_is {A = A} (Refused refusal) (Refused other) e)) h;
+  accepted = λ made e. absurd (cc);
+}
+not_judged {A} source check_memory h = record {
+  kind = λ status e. inl (sym (err_is {A = A} OutOfMemory status e));
+  refused = λ other e. let f = err_is {A = A} OutOfMemory (Refused other) e in absurd (cc);
+  accepted = λ made e. absurd (cc);
 }
 
-same_finish : (finish : Finish) → machine_verdict (verdict_of_finish finish) ≡ machine_finish finish
-same_finish finish_ended = refl
-same_finish (finish_stopped kind line) = refl
+pub no_memory_judged : {A : Type 0} (source : List ℕ) → Judges {A = A} source (Err OutOfMemory)
+no_memory_judged source = not_judged source check_memory tt
 
-agrees : (program : List Statement) → IsOutput (output_of program) (finish_of program) → Agrees (over_folder (meaning program)) (picture_of (output_of program) (finish_of program))
-agrees program h =
-    emitted_agrees (over_folder (meaning program)) (output_of program) (finish_of program) h
-    (λ input folder t.
-    let m = outcome_is_meant program input (files_in folder) t in
-    record { trace = m.0; verdict = ap machine_verdict m.1 ∙ same_finish (finish_of program) })
+pub accepted_judged : {A : Type 0} (source : List ℕ) (tree : Of r-program) (made : A) → IsAccepted source tree → Judges source (Ok made)
+accepted_judged source tree made h = record {
+  kind = λ status e. absurd (cc);
+  refused = λ refusal e. absurd (cc);
+  accepted = λ other e. (tree, h);
+}
 
--- a source that is a program
-pub program_compiled : (source : List ℕ) (program : List Statement) (p : Picture) → length source ≤ 1048576 → IsBuilt source program → ((other : List Statement) → IsBuilt source other → other ≡ program) →
-    p ≡ picture_of (output_of program) (finish_of program) → IsOutput (output_of program) (finish_of program) → Compiles source (Ok p)
-program_compiled source program p size built only made output =
-    let a : Agrees (over_folder (meaning program)) p = subst (λ q. Agrees (over_folder (meaning program)) q) (sym made) (agrees program output) in
-    record {
-      kind = λ status e. absurd (cc e);
-      not_built = λ e. absurd (cc e);
-      compiled = λ image e.
-          let same : p ≡ image = cc e in
-          record { size = size; program = program; built = built; image_agrees = subst (λ q. Agrees (over_folder (meaning program)) q) same a };
-      all = λ image other e b.
-          let same : p ≡ image = cc e in
-          subst (λ q. Agrees (over_folder (meaning q)) image) (sym (only other b)) (subst (λ q. Agrees (over_folder (meaning program)) q) same a);
-    }
+pub not_compiled : (source : List ℕ) (error : CheckError) → IsCause source error → Compiles source (Err (status_of_check error))
+not_compiled source error h = record { judged = not_judged source error h; all = λ image tree e. absurd (cc) }
+
+pub no_memory_compiled : (source : List ℕ) → Compiles source (Err OutOfMemory)
+no_memory_compiled source = not_compiled source check_memory tt
+
+pub program_compiled : IsAcceptedOnce → (source : List ℕ) (tree : Of r-program) (made : Picture) → IsAccepted source tree → Agrees (over_folder (meaning tree)) made → Compiles source (Ok made)
+program_compiled one source tree made h agrees = record {
+  judged = accepted_judged source tree made h;
+  all = λ image other e a.
+      let same : made ≡ image = cc in
+      subst (λ q. Agrees (over_folder (meaning q)) image) (one source tree other h a) (subst (λ q. Agrees (over_folder (meaning tree)) q) same agrees);
+}
 
 whole_is : (file : Option (List ℕ)) (most : ℕ) (contents : List ℕ) → Whole contents ≡ fetched file most → file ≡ Some contents
 whole_is None most contents e = absurd (cc e)
@@ -81,50 +93,129 @@ held told file contents other most f h =
 there : (told : Option Files) (file contents : List ℕ) (files : Files) (most : ℕ) → IsFetched told file most (Whole contents) → told ≡ Some files → map.get files file ≡ None → ⊥
 there told file contents files most f known none = let found = whole_is (map.get files file) most contents (f.told files known) in cc (found, none)
 
--- a source that was fetched is no missing file
-made_no_file : (source : List ℕ) (result : Result Picture Status) → Compiles source result → status_after result ≡ NoFile → ⊥
-made_no_file source (Ok p) c e = cc e
-made_no_file source (Err s) c e = elim (c.kind s refl) [ inl m ↦ cc (m, e) | inr r ↦ cc (r, e) ]
+-- what a source comes to, in the words of an answer
+not_missing : {A : Type 0} (source : List ℕ) (result : Result A Status) → Judges source result → status_after result ≡ NoFile → ⊥
+not_missing source (Ok made) j e = absurd (cc)
+not_missing source (Err status) j e = by (j.kind status refl) where
+  by : (status ≡ OutOfMemory) ⊎ ((refusal : Refusal) × (status ≡ Refused refusal)) → ⊥
+  by (inl m) = absurd (cc)
+  by (inr r) = let f = r.1 in absurd (cc)
 
-made_not_size : (source : List ℕ) (result : Result Picture Status) → Compiles source result → status_after result ≡ Refused refused_size → ⊥
-made_not_size source (Ok p) c e = cc e
-made_not_size source (Err s) c e = elim (c.kind s refl) [ inl m ↦ cc (m, e) | inr r ↦ cc (r, e) ]
+judged_kind : {A : Type 0} (source : List ℕ) (result : Result A Status) → Judges source result → (status : Status) → result ≡ Err status → (is_of_source status || is_of_files status) ≡ true
+judged_kind source result j status e = by (j.kind status e) where
+  by : (status ≡ OutOfMemory) ⊎ ((refusal : Refusal) × (status ≡ Refused refusal)) → (is_of_source status || is_of_files status) ≡ true
+  by (inl m) = rw m refl
+  by (inr r) = let f = r.1 in rw f refl
 
--- what is known where the answer is that the source is not built
-made_not_built : (source : List ℕ) (result : Result Picture Status) (line : ℕ) → Compiles source result → status_after result ≡ Refused (Types (NotBuilt line)) → (line ≡ 1) × ¬ (IsAccepted source)
-made_not_built source (Ok p) line c e = absurd (cc e)
-made_not_built source (Err s) line c e =
-    elim (c.kind s refl) [
-      | inl m ↦ absurd (cc (m, e))
-      | inr r ↦ (let one : Refused (Types (NotBuilt line)) ≡ Refused (Types (NotBuilt 1)) = sym e ∙ r in (cc one, c.not_built (ap Err r)))
-    ]
+judged_refused : {A : Type 0} (one : OneAnswer) (source : List ℕ) (result : Result A Status) (refusal : Refusal) → Judges source result → Exactly (Refused refusal) (status_after result) (IsRefused source refusal)
+judged_refused one source (Ok made) refusal j = let a = j.accepted made refl in record { only = λ e. absurd (cc); always = λ h y. absurd (one.apart source a.0 refusal a.1 h) }
+judged_refused {A} one source (Err status) refusal j = record { only = λ e. j.refused refusal (ap (λ s. Err s) e); always = λ h y. by (j.kind status refl) h y } where
+  by : (status ≡ OutOfMemory) ⊎ ((refusal : Refusal) × (status ≡ Refused refusal)) → IsRefused source refusal → yields_to status ≡ false → status ≡ Refused refusal
+  by (inl m) h y = absurd (let f : yields_to status ≡ true = ap yields_to m in cc)
+  by (inr r) h y = r.1 ∙ ap (λ q. Refused q) (one.refused source r.0 refusal (j.refused r.0 (ap (λ s. Err s) r.1)) h)
 
-made_unless_built : (source : List ℕ) (result : Result Picture Status) → Compiles source result → ((program : List Statement) → ¬ (IsBuilt source program)) → yields_to (status_after result) ≡ false →
-    status_after result ≡ Refused (Types (NotBuilt 1))
-made_unless_built source (Ok p) c none y = let k = c.compiled p refl in absurd (none k.program k.built)
-made_unless_built source (Err s) c none y = elim (c.kind s refl) [ inl m ↦ absurd (let f : yields_to s ≡ true = ap yields_to m in cc (f, y)) | inr r ↦ r ]
+judged_ended : {A : Type 0} (one : OneAnswer) (source : List ℕ) (result : Result A Status) → Judges source result → Exactly Ended (status_after result) (IsAcceptedSource source)
+judged_ended one source (Ok made) j = record { only = λ e. j.accepted made refl; always = λ h y. refl }
+judged_ended one source (Err status) j = record { only = λ e. absurd (by (j.kind status refl) e); always = λ h y. absurd (none (j.kind status refl) h y) } where
+  by : (status ≡ OutOfMemory) ⊎ ((refusal : Refusal) × (status ≡ Refused refusal)) → status ≡ Ended → ⊥
+  by (inl m) e = absurd (cc)
+  by (inr r) e = let f = r.1 in absurd (cc)
 
-made_refused : (source : List ℕ) (result : Result Picture Status) (refusal : Refusal) → length source ≤ 1048576 → Compiles source result → Exactly (Refused refusal) (status_after result) (IsRefused source refusal)
-made_refused source result refused_size size c = record { only = λ e. absurd (made_not_size source result c e); always = λ large y. absurd (omega arith) }
-made_refused source result (Types (NotBuilt line)) size c = record {
-  only = λ e. let k = made_not_built source result line c e in (size, k.0, λ program b. k.1 (size, (program, b)));
-  always = λ cause y. made_unless_built source result c cause.2 y ∙ ap (λ n. Refused (Types (NotBuilt n))) (sym cause.1);
-}
+  none : (status ≡ OutOfMemory) ⊎ ((refusal : Refusal) × (status ≡ Refused refusal)) → IsAcceptedSource source → yields_to status ≡ false → ⊥
+  none (inl m) h y = let f : yields_to status ≡ true = ap yields_to m in absurd (cc)
+  none (inr r) h y = one.apart source h.0 r.0 h.1 (j.refused r.0 (ap (λ s. Err s) r.1))
 
 -- what a fetched source comes to is what its file comes to
-pub fetched_made : (told : Option Files) (file source : List ℕ) (result : Result Picture Status) → IsFetched told file 1048576 (Whole source) → Compiles source result → MakesImage told file result
-fetched_made told file source result f c = record {
-  kind = λ status e. elim (c.kind status e) [ inl m ↦ rw m refl | inr r ↦ rw r refl ];
-  no_file = λ files known. record { only = λ e. absurd (made_no_file source result c e); always = λ none y. absurd (there told file source files 1048576 f known none) };
-  refused = λ other refusal h. subst (λ x. Exactly (Refused refusal) (status_after result) (IsRefused x refusal)) (sym (held told file source other 1048576 f h)) (made_refused source result refusal (f.bound source refl) c);
-  compiled = λ other image h e. subst (λ x. IsCompiled x image) (sym (held told file source other 1048576 f h)) (c.compiled image e);
-  all = λ other image program h e b. c.all image program e (subst (λ x. IsBuilt x program) (held told file source other 1048576 f h) b);
-  has_image = λ other h a status e.
-      elim (c.kind status e) [
-        | inl m ↦ rw m refl
-        | inr r ↦ absurd (c.not_built (e ∙ ap Err r) (subst (λ x. IsAccepted x) (held told file source other 1048576 f h) a))
-      ];
+pub fetched_judged : {A : Type 0} → OneAnswer → (told : Option Files) (file source : List ℕ) (result : Result A Status) → IsFetched told file 1048576 (Whole source) → Judges source result → ReadsSource told file result
+fetched_judged one told file source result f j = record {
+  kind = judged_kind source result j;
+  no_file = λ files known. record { only = λ e. absurd (not_missing source result j e); always = λ none y. absurd (there told file source files 1048576 f known none) };
+  refused = λ other refusal h. subst (λ x. Exactly (Refused refusal) (status_after result) (IsRefused x refusal)) (sym (held told file source other 1048576 f h)) (judged_refused one source result refusal j);
+  ended = λ other h. subst (λ x. Exactly Ended (status_after result) (IsAcceptedSource x)) (sym (held told file source other 1048576 f h)) (judged_ended one source result j);
 }
+
+pub fetched_made : OneAnswer → (told : Option Files) (file source : List ℕ) (result : Result Picture Status) → IsFetched told file 1048576 (Whole source) → Compiles source result → MakesImage told file result
+fetched_made one told file source result f c = record {
+  read = fetched_judged one told file source result f c.judged;
+  all = λ other image tree h e a. c.all image tree e (subst (λ x. IsAccepted x tree) (held told file source other 1048576 f h) a);
+}
+
+long_is : (file : Option (List ℕ)) (most : ℕ) (contents : List ℕ) → TooLong ≡ fetched file most → file ≡ Some contents → most < length contents
+long_is None most contents e i = absurd (cc e)
+long_is (Some found) most contents e i =
+    let same : found ≡ contents = cc i in
+    subst (λ x. most < length x) same
+    (elim (nat_le (length found) most) as (λ b. nat_le (length found) most ≡ b → TooLong ≡ cond b (Whole found) TooLong → most < length found) [ true ↦ λ _ q. absurd (cc q) | false ↦ λ over _. leb-false (length found) most over ] refl e)
+
+long_there : (file : Option (List ℕ)) (most : ℕ) → TooLong ≡ fetched file most → file ≡ None → ⊥
+long_there None most e n = cc e
+long_there (Some found) most e n = cc n
+
+absent_is : (file : Option (List ℕ)) (most : ℕ) → Absent ≡ fetched file most → file ≡ None
+absent_is None most e = refl
+absent_is (Some found) most e = absurd (elim (nat_le (length found) most) as (λ b. Absent ≡ cond b (Whole found) TooLong → ⊥) [ true ↦ λ q. cc q | false ↦ λ q. cc q ] e)
+
+-- a file that is not there
+absent_read : {A : Type 0} (told : Option Files) (file : List ℕ) → IsFetched told file 1048576 Absent → ReadsSource {A = A} told file (Err NoFile)
+absent_read {A} told file f =
+    let none : (source : List ℕ) → HoldsFile told file source → ⊥ = λ source h. let a = absent_is (map.get h.files file) 1048576 (f.told h.files h.known) in let b = h.found in cc (a, b) in
+    record {
+      kind = λ status e. let s = err_is {A = A} NoFile status e in rw (← s) refl;
+      no_file = λ files known. record { only = λ e. absent_is (map.get files file) 1048576 (f.told files known); always = λ e y. refl };
+      refused = λ source refusal h. absurd (none source h);
+      ended = λ source h. absurd (none source h);
+    }
+
+-- a source that is too large
+large_read : {A : Type 0} → OneAnswer → (told : Option Files) (file : List ℕ) → IsFetched told file 1048576 TooLong → ReadsSource {A = A} told file (Err (Refused refused_size))
+large_read {A} one told file f =
+    let size : (source : List ℕ) → HoldsFile told file source → 1048576 < length source = λ source h. long_is (map.get h.files file) 1048576 source (f.told h.files h.known) h.found in
+    record {
+      kind = λ status e. let s = err_is {A = A} (Refused refused_size) status e in rw (← s) refl;
+      no_file = λ files known. record { only = λ e. absurd (cc); always = λ e y. absurd (long_there (map.get files file) 1048576 (f.told files known) e) };
+      refused = λ source refusal h. record {
+        only = λ e. subst (λ r. IsRefused source r) (refusal_is refused_size refusal e) (size source h);
+        always = λ r y. ap (λ q. Refused q) (one.refused source refused_size refusal (size source h) r);
+      };
+      ended = λ source h. record { only = λ e. absurd (cc); always = λ a y. absurd (one.apart source a.0 refused_size a.1 (size source h)) };
+    }
+
+-- the cabinet failed, or memory ran out
+failed_read : {A : Type 0} (told : Option Files) (file : List ℕ) (status : Status) → is_of_files status ≡ true → (status ≡ NoFile → ⊥) → ((refusal : Refusal) → status ≡ Refused refusal → ⊥) → (status ≡ Ended → ⊥) → yields_to status ≡ true
+    → ReadsSource {A = A} told file (Err status)
+failed_read {A} told file status k missing refused ended y = record {
+  kind = λ other e. let s = err_is {A = A} status other e in subst (λ t. (is_of_source t || is_of_files t) ≡ true) s (or_files status k);
+  no_file = λ files known. record { only = λ e. absurd (missing e); always = λ e z. absurd (cc (y, z)) };
+  refused = λ source refusal h. record { only = λ e. absurd (refused refusal e); always = λ r z. absurd (cc (y, z)) };
+  ended = λ source h. record { only = λ e. absurd (ended e); always = λ a z. absurd (cc (y, z)) };
+} where
+  or_files : (status : Status) → is_of_files status ≡ true → (is_of_source status || is_of_files status) ≡ true
+  or_files CabinetFault e = refl
+  or_files OutOfMemory e = refl
+  or_files other e = absurd (cc e)
+
+-- a source is judged without the cabinet
+pub judged_no_fault : {A : Type 0} (source : List ℕ) (result : Result A Status) → Judges source result → result ≡ Err CabinetFault → ⊥
+judged_no_fault source result j e = by (j.kind CabinetFault e) where
+  by : (CabinetFault ≡ OutOfMemory) ⊎ ((refusal : Refusal) × (CabinetFault ≡ Refused refusal)) → ⊥
+  by (inl m) = absurd (cc)
+  by (inr r) = let f = r.1 in absurd (cc)
+
+-- the cabinet failed at a source
+pub fetch_failed : (told : Option Files) (file : List ℕ) (error : CabinetError) (status : Status) → (error ≡ Failed → status ≡ CabinetFault) → (error ≡ cabinet_memory → status ≡ OutOfMemory) → Fetches told file (Err status)
+fetch_failed told file Failed status f m = rw (f refl) refl
+fetch_failed told file cabinet_memory status f m = rw (m refl) refl
+
+-- a source that was not fetched
+pub not_fetched : {A : Type 0} → OneAnswer → (told : Option Files) (file : List ℕ) (status : Status) → Fetches told file (Err status) → ReadsSource {A = A} told file (Err status)
+not_fetched one told file NoFile f = absent_read told file f
+not_fetched one told file (Refused refused_size) f = large_read one told file f
+not_fetched one told file CabinetFault f = failed_read told file CabinetFault refl (λ e. cc e) (λ r e. cc e) (λ e. cc e) refl
+not_fetched one told file OutOfMemory f = failed_read told file OutOfMemory refl (λ e. cc e) (λ r e. cc e) (λ e. cc e) refl
+not_fetched one told file other f = absurd (cc f)
+
+pub not_made : OneAnswer → (told : Option Files) (file : List ℕ) (status : Status) → Fetches told file (Err status) → MakesImage told file (Err status)
+not_made one told file status f = record { read = not_fetched one told file status f; all = λ source image tree h e. absurd (cc e) }
 
 given_error : (error : ImageError) (read : Result Picture ImageError) → error ≢ Memory → Gives (Err error) read → read ≡ Err error
 given_error Size read h g = g
@@ -157,17 +248,6 @@ fetched_bad told file bytes error h f is only =
     bad_read told file error h (λ files known none. there told file bytes files 67108884 f known none)
     (λ other holds. subst (λ x. reading x ≡ Err error) (sym (held told file bytes other 67108884 f holds)) (given_error error (reading bytes) h is))
     (λ other p holds i. let e : Ok p ≡ Err error = given_error error (Ok p) h (only p (subst (λ x. IsImage x p) (held told file bytes other 67108884 f holds) i)) in cc e)
-
-long_is : (file : Option (List ℕ)) (most : ℕ) (contents : List ℕ) → TooLong ≡ fetched file most → file ≡ Some contents → most < length contents
-long_is None most contents e i = absurd (cc e)
-long_is (Some found) most contents e i =
-    let same : found ≡ contents = cc i in
-    subst (λ x. most < length x) same
-    (elim (nat_le (length found) most) as (λ b. nat_le (length found) most ≡ b → TooLong ≡ cond b (Whole found) TooLong → most < length found) [ true ↦ λ _ q. absurd (cc q) | false ↦ λ over _. leb-false (length found) most over ] refl e)
-
-long_there : (file : Option (List ℕ)) (most : ℕ) → TooLong ≡ fetched file most → file ≡ None → ⊥
-long_there None most e n = cc e
-long_there (Some found) most e n = cc n
 
 too_large : (bytes : List ℕ) → 67108884 < length bytes → reading bytes ≡ Err Size
 too_large bytes h = grind arith

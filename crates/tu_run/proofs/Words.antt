@@ -5,8 +5,8 @@ use Rattle.tu_run.specs.declared.report.Report.{Report}
 use Rattle.tu_run.specs.declared.report.Status.{Status}
 use Rattle.tu_run.specs.declared.report.Status.TheVariants.{Ended, Usage, NoteFault}
 use Rattle.tu_run.specs.Outside.{Outside}
-use Rattle.tu_run.specs.Answer.{Answers, AnswersAny, AnswersRun, AnswersBuild, AnswersExec, is_of_run, is_of_source, is_of_image, is_of_files}
-use Rattle.tu_run.specs.Command.{IsBudget, SaysBudget, IsRun, IsBuild, IsExec, IsUsage, value_behind}
+use Rattle.tu_run.specs.Answer.{Answers, AnswersAny, AnswersRun, AnswersCheck, AnswersBuild, AnswersExec, is_of_run, is_of_source, is_of_image, is_of_files}
+use Rattle.tu_run.specs.Command.{IsBudget, SaysBudget, IsRun, IsCheck, IsBuild, IsExec, IsUsage, value_behind}
 
 one_budget : (word : List ℕ) (n m : ℕ) → IsBudget word n → IsBudget word m → n ≡ m
 one_budget word n m a b =
@@ -45,6 +45,20 @@ no_run_exec words file image n m a b = let e : codes "run" ∷ (file ∷ a.more)
 pub no_build_exec : (words : List (List ℕ)) (file image name : List ℕ) (m : ℕ) → IsBuild words file image → IsExec words name m → ⊥
 no_build_exec words file image name m a b = let e : codes "build" ∷ (file ∷ (image ∷ [])) ≡ codes "exec" ∷ (name ∷ b.more) = sym a.spelled ∙ b.spelled in cc e
 
+pub one_check : (words : List (List ℕ)) (file other : List ℕ) → IsCheck words file → IsCheck words other → file ≡ other
+one_check words file other a b =
+    let e : codes "check" ∷ (file ∷ []) ≡ codes "check" ∷ (other ∷ []) = sym a.spelled ∙ b.spelled in
+    cc e
+
+pub no_run_check : (words : List (List ℕ)) (file other : List ℕ) (n : ℕ) → IsRun words file n → IsCheck words other → ⊥
+no_run_check words file other n a b = let e : codes "run" ∷ (file ∷ a.more) ≡ codes "check" ∷ (other ∷ []) = sym a.spelled ∙ b.spelled in cc e
+
+pub no_check_build : (words : List (List ℕ)) (file other image : List ℕ) → IsCheck words file → IsBuild words other image → ⊥
+no_check_build words file other image a b = let e : codes "check" ∷ (file ∷ []) ≡ codes "build" ∷ (other ∷ (image ∷ [])) = sym a.spelled ∙ b.spelled in cc e
+
+pub no_check_exec : (words : List (List ℕ)) (file image : List ℕ) (m : ℕ) → IsCheck words file → IsExec words image m → ⊥
+no_check_exec words file image m a b = let e : codes "check" ∷ (file ∷ []) ≡ codes "exec" ∷ (image ∷ b.more) = sym a.spelled ∙ b.spelled in cc e
+
 run_kind : (status other : Status) → (is_of_run other || is_of_source other) ≡ false → (is_of_run status || is_of_source status) ≡ true → status ≢ other
 run_kind status other off on e = let f : (is_of_run status || is_of_source status) ≡ false = ap (λ s. is_of_run s || is_of_source s) e ∙ off in cc (on, f)
 
@@ -63,6 +77,9 @@ run_is_reached file budget before after report a = run_kind report.status NoteFa
 pub build_is_reached : (file name : List ℕ) (before after : Outside) (report : Report) → AnswersBuild file name before after report → report.status ≢ NoteFault
 build_is_reached file name before after report a = build_kind report.status NoteFault (λ e. cc e) refl a.kind
 
+pub check_is_reached : (file : List ℕ) (before after : Outside) (report : Report) → AnswersCheck file before after report → report.status ≢ NoteFault
+check_is_reached file before after report a = build_kind report.status NoteFault (λ e. cc e) refl a.kind
+
 pub exec_is_reached : (image : List ℕ) (budget : ℕ) (before after : Outside) (report : Report) → AnswersExec image budget before after report → report.status ≢ NoteFault
 exec_is_reached image budget before after report a = exec_kind report.status NoteFault refl a.kind
 
@@ -71,8 +88,20 @@ run_is_answered words file budget before after report is a any = record {
   usage = λ e. absurd (run_kind report.status Usage refl a.kind e);
   is_usage = λ u. absurd (u.no_run file budget is);
   run = λ other n r. let o = one_run words file other budget n is r in subst (λ m. AnswersRun other m before after report) o.1 (subst (λ f. AnswersRun f budget before after report) o.0 a);
+  check = λ other k. absurd (no_run_check words file other budget is k);
   build = λ other image b. absurd (no_run_build words file other image budget is b);
   exec = λ image n x. absurd (no_run_exec words file image budget n is x);
+  any = any;
+}
+
+pub check_is_answered : (words : List (List ℕ)) (file : List ℕ) (before after : Outside) (report : Report) → IsCheck words file → AnswersCheck file before after report → AnswersAny before after report → Answers words before after report
+check_is_answered words file before after report is a any = record {
+  usage = λ e. absurd (build_kind report.status Usage (λ q. cc q) refl a.kind e);
+  is_usage = λ u. absurd (u.no_check file is);
+  run = λ other n r. absurd (no_run_check words other file n r is);
+  check = λ other k. subst (λ f. AnswersCheck f before after report) (one_check words file other is k) a;
+  build = λ other image b. absurd (no_check_build words file other image is b);
+  exec = λ image n x. absurd (no_check_exec words file image n is x);
   any = any;
 }
 
@@ -81,6 +110,7 @@ build_is_answered words file name before after report is a any = record {
   usage = λ e. absurd (build_kind report.status Usage (λ q. cc q) refl a.kind e);
   is_usage = λ u. absurd (u.no_build file name is);
   run = λ other n r. absurd (no_run_build words other file name n r is);
+  check = λ other k. absurd (no_check_build words other file name k is);
   build = λ other image b. let o = one_build words file other name image is b in subst (λ i. AnswersBuild other i before after report) o.1 (subst (λ f. AnswersBuild f name before after report) o.0 a);
   exec = λ image n x. absurd (no_build_exec words file name image n is x);
   any = any;
@@ -91,6 +121,7 @@ exec_is_answered words image budget before after report is a any = record {
   usage = λ e. absurd (exec_kind report.status Usage refl a.kind e);
   is_usage = λ u. absurd (u.no_exec image budget is);
   run = λ other n r. absurd (no_run_exec words other image n budget r is);
+  check = λ other k. absurd (no_check_exec words other image budget k is);
   build = λ other name b. absurd (no_build_exec words other name image budget b is);
   exec = λ other n x. let o = one_exec words image other budget n is x in subst (λ m. AnswersExec other m before after report) o.1 (subst (λ f. AnswersExec f budget before after report) o.0 a);
   any = any;
@@ -101,12 +132,12 @@ usage_is_answered words before u = record {
   usage = λ _. u;
   is_usage = λ _. refl;
   run = λ other n r. absurd (u.no_run other n r);
+  check = λ other k. absurd (u.no_check other k);
   build = λ other name b. absurd (u.no_build other name b);
   exec = λ other n x. absurd (u.no_exec other n x);
   any = record {
     none_made = λ _. refl;
     untouched = λ _. record { left = refl; events = refl; files = refl; none = refl };
-    image_shows = λ _. refl;
     console_fault = λ e. absurd (cc e);
     cabinet_fault = λ e. absurd (cc e);
     later = (omega arith, omega arith);

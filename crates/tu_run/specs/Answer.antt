@@ -1,5 +1,5 @@
 -- What a command answers, apart from its note.
-use Rattle.std.specs.Prelude.{◌≡◌, ◌≢◌, ℕ, ◌≤◌, Bool, true, false, ◌||◌, List, length, Option, Some, None, Err}
+use Rattle.std.specs.Prelude.{◌≡◌, ◌≢◌, ℕ, ◌≤◌, Bool, true, false, ◌||◌, List, Option, Some, None, Err}
 use Rattle.std.specs.FinMap as map
 use Rattle.tu_base.specs.declared.event.Event.{Event}
 use Rattle.tu_base.specs.declared.event.Verdict.{Verdict}
@@ -15,16 +15,17 @@ use Rattle.rv_image.specs.Run.{machine_run}
 use Rattle.rv_image.specs.declared.image.ImageError.{ImageError}
 use Rattle.rv_image.specs.declared.image.ImageError.TheVariants.{Memory}
 use Rattle.rv_host.specs.Told.{ShowsTrace}
-use Rattle.tu_meaning.specs.Tree.{Statement}
-use Rattle.tu_meaning.specs.Meaning.{Meant, meaning}
+use Rattle.tu_token.specs.declared.fault.Refusal.{Refusal}
+use Rattle.tu_token.specs.Rules.{r-program}
+use Rattle.tu_token.specs.Syntax.{Of}
+use Rattle.tu_check.specs.Refusals.{IsAccepted, IsRefused}
+use Rattle.tu_meaning.specs.Meaning.{Meant}
+use Rattle.tu_meaning.specs.Programs.{meaning}
 use Rattle.tu_meaning.specs.Prefix.{IsPrefix}
 use Rattle.tu_agree.specs.Agrees.{Agrees, IsEnough, over_folder}
-use Rattle.tu_run.specs.Command.{IsRun, IsBuild, IsExec, IsUsage}
-use Rattle.tu_run.specs.Source.{IsBuilt, IsAccepted}
-use Rattle.tu_run.specs.Refusal.{IsRefused}
+use Rattle.tu_run.specs.Command.{IsRun, IsCheck, IsBuild, IsExec, IsUsage}
 use Rattle.tu_run.specs.Outside.{Outside, Tells, HoldsFile, told_of}
 use Rattle.tu_run.specs.Ran.{RunsImage, verdict_shown}
-use Rattle.tu_run.specs.declared.report.Refusal.{Refusal}
 use Rattle.tu_run.specs.declared.report.Report.{Report}
 use Rattle.tu_run.specs.declared.report.Status.{Status}
 use Rattle.tu_run.specs.declared.report.Status.TheVariants.{Ended, Stopped, Refused, Usage, NoFile, BadImage, Spent, ConsoleFault, CabinetFault, NoteFault, OutOfMemory, MachineFault}
@@ -93,12 +94,15 @@ pub record LeavesMeant (meant : ℕ → Meant) (budget : ℕ) (status : Status) 
   -- no giving up: where it is over within units that the budget is enough for, the run is over with the same trace and verdict
   pub completes : (t : ℕ) → IsEnough budget (meant t).units → (meant t).verdict ≢ verdict_going → (done ≡ (meant t).trace) × (status ≡ status_of_verdict (meant t).verdict)
 
+-- the source is accepted as some tree
+abbrev pub IsAcceptedSource : List ℕ → Type 0
+IsAcceptedSource source = (tree : Of r-program) × IsAccepted source tree
+
 -- the image agrees with the program that the source is
 pub record IsCompiled (source : List ℕ) (image : Picture) : Type 0 where
-  pub size : length source ≤ 1048576
-  pub program : List Statement
-  pub built : IsBuilt source program
-  pub image_agrees : Agrees (over_folder (meaning program)) image
+  pub tree : Of r-program
+  pub accepted : IsAccepted source tree
+  pub image_agrees : Agrees (over_folder (meaning tree)) image
 
 -- nothing was read, written or changed
 pub record IsUntouched (before after : Outside) (count : ℕ) : Type 0 where
@@ -107,23 +111,38 @@ pub record IsUntouched (before after : Outside) (count : ℕ) : Type 0 where
   pub files : after.files ≡ before.files
   pub none : count ≡ 0
 
--- What the source in FILE comes to, for `run` and `build`.
+-- What the source in FILE comes to, for `run`, `check` and `build`.
 pub record AnswersSource (file : List ℕ) (before : Outside) (report : Report) : Type 0 where
   pub no_file : (files : Files) → before.files ≡ Some files → Exactly NoFile report.status (map.get files file ≡ None)
   pub refused : (source : List ℕ) (refusal : Refusal) → HoldsFile before.files file source → Exactly (Refused refusal) report.status (IsRefused source refusal)
-  -- An image agrees with the source, which is then accepted. There is one for each accepted source, unless the answer is one to which all yield.
+
+-- The image of the source in FILE, for `run` and `build`. It agrees with the source, which is then accepted. There is one for each accepted
+-- source, unless the answer is one to which all yield.
+pub record AnswersImage (file : List ℕ) (before : Outside) (report : Report) : Type 0 where
   pub image_agrees : (source : List ℕ) (image : Picture) → HoldsFile before.files file source → report.image ≡ Some image → IsCompiled source image
-  pub has_image : (source : List ℕ) → HoldsFile before.files file source → IsAccepted source → yields_to report.status ≡ false → report.image ≢ None
+  pub has_image : (source : List ℕ) → HoldsFile before.files file source → IsAcceptedSource source → yields_to report.status ≡ false → report.image ≢ None
 
 -- `run FILE [budget=N]`
 pub record AnswersRun (file : List ℕ) (budget : ℕ) (before after : Outside) (report : Report) : Type 0 where
   pub kind : (is_of_run report.status || is_of_source report.status) ≡ true
   pub source : AnswersSource file before report
+  pub made : AnswersImage file before report
+  -- without an image no verdict is shown
+  pub image_shows : report.image ≡ None → verdict_shown report.status ≡ None
   pub run_of_image : (image : Picture) → report.image ≡ Some image → RunsImage image budget before after report.status report.instructions
   -- what the program means is left
-  pub leaves : (source : List ℕ) (program : List Statement) → HoldsFile before.files file source → length source ≤ 1048576 → IsBuilt source program →
+  pub leaves : (source : List ℕ) (tree : Of r-program) → HoldsFile before.files file source → IsAccepted source tree →
       (input : List ℕ) (events : List Event) (files : Files) → Tells before input events files → yields_to report.status ≡ false →
-      LeavesMeant (meaning program input (Some files)) budget report.status events files after
+      LeavesMeant (meaning tree input (Some files)) budget report.status events files after
+
+-- `check FILE`
+pub record AnswersCheck (file : List ℕ) (before after : Outside) (report : Report) : Type 0 where
+  pub kind : report.status ≢ Ended → (is_of_source report.status || is_of_files report.status) ≡ true
+  pub source : AnswersSource file before report
+  pub check_accepts : (source : List ℕ) → HoldsFile before.files file source → Exactly Ended report.status (IsAcceptedSource source)
+  -- nothing is made, and nothing runs or changes
+  pub none_made : report.image ≡ None
+  pub untouched : IsUntouched before after report.instructions
 
 -- an image was made, and its bytes were kept as a file
 pub record KeepsImage (image : List ℕ) (before after : Outside) (made : Option Picture) : Type 0 where
@@ -135,7 +154,8 @@ pub record KeepsImage (image : List ℕ) (before after : Outside) (made : Option
 pub record AnswersBuild (file image : List ℕ) (before after : Outside) (report : Report) : Type 0 where
   pub kind : report.status ≢ Ended → (is_of_source report.status || is_of_files report.status) ≡ true
   pub source : AnswersSource file before report
-  pub ended : (source : List ℕ) → HoldsFile before.files file source → Exactly Ended report.status (IsAccepted source)
+  pub made : AnswersImage file before report
+  pub ended : (source : List ℕ) → HoldsFile before.files file source → Exactly Ended report.status (IsAcceptedSource source)
   pub build_keeps_image : report.status ≡ Ended → KeepsImage image before after report.image
   pub unchanged : report.status ≢ Ended → after.files ≡ before.files
   -- nothing runs
@@ -153,6 +173,8 @@ pub record AnswersExec (image : List ℕ) (budget : ℕ) (before after : Outside
   -- The image is the one that the bytes are. There is one where they are one, unless the answer is one to which all yield.
   pub image_is_read : (bytes : List ℕ) (picture : Picture) → HoldsFile before.files image bytes → report.image ≡ Some picture → IsImage bytes picture
   pub has_image : (bytes : List ℕ) (picture : Picture) → HoldsFile before.files image bytes → IsImage bytes picture → yields_to report.status ≡ false → report.image ≡ Some picture
+  -- without an image no verdict is shown
+  pub image_shows : report.image ≡ None → verdict_shown report.status ≡ None
   pub exec_runs_image : (picture : Picture) → report.image ≡ Some picture → RunsImage picture budget before after report.status report.instructions
   -- no giving up: the status shows the run's verdict
   pub completes : (bytes : List ℕ) (picture : Picture) → HoldsFile before.files image bytes → IsImage bytes picture →
@@ -161,10 +183,9 @@ pub record AnswersExec (image : List ℕ) (budget : ℕ) (before after : Outside
 
 -- What holds of each command.
 pub record AnswersAny (before after : Outside) (report : Report) : Type 0 where
-  -- With a status to which no run comes, as after a refusal, no image was made. Without an image nothing was done, and no verdict is shown.
+  -- With a status to which no run comes, as after a refusal, no image was made. Without an image nothing was done.
   pub none_made : is_of_run report.status ≡ false → report.image ≡ None
   pub untouched : report.image ≡ None → IsUntouched before after report.instructions
-  pub image_shows : report.image ≡ None → verdict_shown report.status ≡ None
   -- faults come only where a count rose
   pub console_fault : report.status ≡ ConsoleFault → Rose before.console_faults after.console_faults
   pub cabinet_fault : report.status ≡ CabinetFault → Rose before.cabinet_faults after.cabinet_faults
@@ -175,6 +196,7 @@ pub record Answers (words : List (List ℕ)) (before after : Outside) (report : 
   pub usage : report.status ≡ Usage → IsUsage words
   pub is_usage : IsUsage words → report.status ≡ Usage
   pub run : (file : List ℕ) (budget : ℕ) → IsRun words file budget → AnswersRun file budget before after report
+  pub check : (file : List ℕ) → IsCheck words file → AnswersCheck file before after report
   pub build : (file image : List ℕ) → IsBuild words file image → AnswersBuild file image before after report
   pub exec : (image : List ℕ) (budget : ℕ) → IsExec words image budget → AnswersExec image budget before after report
   pub any : AnswersAny before after report

@@ -31,6 +31,11 @@ pub record IsRun (words : List (List ℕ)) (file : List ℕ) (budget : ℕ) : Ty
   pub named : 0 < length file
   pub budgeted : SaysBudget more budget
 
+-- `check FILE`
+pub record IsCheck (words : List (List ℕ)) (file : List ℕ) : Type 0 where
+  pub spelled : words ≡ codes "check" ∷ (file ∷ [])
+  pub named : 0 < length file
+
 -- `build FILE IMAGE`
 pub record IsBuild (words : List (List ℕ)) (file image : List ℕ) : Type 0 where
   pub spelled : words ≡ codes "build" ∷ (file ∷ (image ∷ []))
@@ -47,5 +52,6 @@ pub record IsExec (words : List (List ℕ)) (image : List ℕ) (budget : ℕ) : 
 -- no command
 pub record IsUsage (words : List (List ℕ)) : Type 0 where
   pub no_run : (file : List ℕ) (budget : ℕ) → ¬ (IsRun words file budget)
+  pub no_check : (file : List ℕ) → ¬ (IsCheck words file)
   pub no_build : (file image : List ℕ) → ¬ (IsBuild words file image)
   pub no_exec : (image : List ℕ) (budget : ℕ) → ¬ (IsExec words image budget)

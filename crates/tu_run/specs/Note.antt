@@ -7,9 +7,7 @@ use Rattle.rv_isa.specs.declared.service.FaultKind.{FaultKind}
 use Rattle.rv_isa.specs.declared.service.FaultKind.TheVariants.{Illegal, Fetch, Address, Misaligned, Break, Service}
 use Rattle.rv_image.specs.declared.image.ImageError.{ImageError}
 use Rattle.rv_image.specs.declared.image.ImageError.TheVariants.{Size as bad_size, Short, Magic, Version, Length, Entry, Globals, Memory}
-use Rattle.tu_run.specs.declared.report.TypeError.TheVariants.{NotBuilt}
-use Rattle.tu_run.specs.declared.report.Refusal.{Refusal}
-use Rattle.tu_run.specs.declared.report.Refusal.TheVariants.{Size, Types}
+use Rattle.tu_run.specs.Reason.{at_line, refusal_text}
 use Rattle.tu_run.specs.declared.report.Status.{Status}
 use Rattle.tu_run.specs.declared.report.Status.TheVariants.{Ended, Stopped, Refused, Usage, NoFile, BadImage, Spent, ConsoleFault, CabinetFault, NoteFault, OutOfMemory, MachineFault}
 
@@ -26,13 +24,6 @@ status_number CabinetFault = 8
 status_number NoteFault = 9
 status_number OutOfMemory = 10
 status_number (MachineFault kind pc) = 11
-
-abbrev pub at_line : ℕ → List ℕ → List ℕ
-at_line line text = codes "line " ++ (decimal line ++ (codes ": " ++ text))
-
-abbrev pub refusal_text : Refusal → List ℕ
-refusal_text Size = codes "refused: Size"
-refusal_text (Types (NotBuilt line)) = at_line line (codes "Types NotBuilt")
 
 abbrev pub error_name : ImageError → List ℕ
 error_name bad_size = codes "Size"
@@ -66,7 +57,7 @@ abbrev pub note_lines : ℕ → Status → List (List ℕ)
 note_lines count Ended = []
 note_lines count (Stopped kind line) = at_line line (kind_name kind) ∷ []
 note_lines count (Refused refusal) = refusal_text refusal ∷ []
-note_lines count Usage = codes "usage: turing run FILE [budget=N] | build FILE IMAGE | exec IMAGE [budget=N]" ∷ []
+note_lines count Usage = codes "usage: turing run FILE [budget=N] | check FILE | build FILE IMAGE | exec IMAGE [budget=N]" ∷ []
 note_lines count NoFile = codes "no such file" ∷ []
 note_lines count (BadImage error) = (codes "bad image: " ++ error_name error) ∷ []
 note_lines count Spent = (codes "spent after " ++ (decimal count ++ codes " instructions")) ∷ []

@@ -1,29 +1,26 @@
 // The answer of a command, before its note.
-ghost use Rattle.std.specs.Prelude.{◌≡◌, ◌≢◌, ◌≤◌, ℕ, List, Option, length, true, Some, None, Err, IfOk};
-ghost use Rattle.std.specs.List.{All};
+ghost use Rattle.std.specs.Prelude.{◌≡◌, ◌≢◌, ◌≤◌, ℕ, List, Option, length, true, Some, None, Ok, Err};
 ghost use Rattle.tu_base.specs.declared.event.Event.{Event};
 ghost use Rattle.tu_outside.specs.Causes.{Rose};
-ghost use Rattle.tu_run.specs.Outcome.{output_of, finish_of};
-ghost use Rattle.tu_run.specs.Runs.{IsOutput, picture_of};
 ghost use Rattle.tu_outside.specs.Files.{with_file};
 ghost use Rattle.rv_image.specs.Picture.{spelling};
-ghost use Rattle.tu_run.specs.Answer.{Answers, AnswersAny, AnswersRun, AnswersBuild, AnswersExec, is_of_run, is_of_files};
+ghost use Rattle.tu_run.specs.Answer.{Answers, AnswersAny, AnswersRun, AnswersCheck, AnswersBuild, AnswersExec, is_of_run, is_of_files};
 ghost use Rattle.tu_run.specs.Ran.{RunsImage};
-ghost use Rattle.tu_run.specs.Made.{Compiles, MakesImage, ReadsImage, status_of};
+ghost use Rattle.tu_run.specs.Made.{Compiles, Fetches, Judges, MakesImage, ReadsImage, ReadsSource, status_of, status_of_check};
 
 use crate::command::{Command, command_of};
-use crate::emitter::emit;
-use crate::program::read_program;
-use crate::value::outcome;
-use crate::{Refusal, Report, Status, TypeError};
+use crate::{Report, Status};
 use rv_host::{HostEnd, run};
 use rv_image::{Image, ImageError, reads_again};
 use rv_machine::Machine;
 use std::alloc::Global;
 use tu_agree::meaning_is_run;
-use tu_base::{Bytes, Memory, Words};
-use tu_meaning::{Statement, verdict_is_final};
+use tu_base::{Bytes, Words};
+use tu_check::{CheckError, check, one_answer};
+use tu_first::compile;
+use tu_meaning::program_is_final;
 use tu_outside::{Cabinet, CabinetError, Console, Fetched};
+use tu_token::Refusal;
 
 // In bytes.
 const LARGEST_SOURCE: u64 = 1_048_576;
@@ -62,30 +59,67 @@ fn image_status(error: ImageError) -> Status
     }
 }
 
-// The image of a program.
-fn compile(alloc: Global, program: &[Statement]) -> Result<Image, Memory>
-    requires lines { All (λ s. s.line ≤ 1048577) program.now }
-    requires few { length program.now ≤ 32768 }
-    ensures image { IfOk result (λ image. image ≡ picture_of (output_of program.now) (finish_of program.now)) }
-    ensures output { IfOk result (λ _. IsOutput (output_of program.now) (finish_of program.now)) }
+// The status that tells why a source was not checked.
+fn check_status(error: CheckError) -> Status
+    ensures { result ≡ status_of_check error }
 {
-    let (output, finish) = outcome(alloc, program)?;
-    emit(alloc, output.as_slice(), finish)
+    match error {
+        CheckError::Refused(refusal) => Status::Refused(refusal),
+        CheckError::Memory => Status::OutOfMemory,
+    }
+}
+
+// The source in a file, of at most 1,048,576 bytes.
+fn source_in<K: Cabinet>(alloc: Global, file: &Bytes, cabinet: &mut K) -> Result<Bytes, Status>
+    ensures fetches { Fetches (K.files cabinet.old) file.now result }
+    ensures files { K.files cabinet.new ≡ K.files cabinet.old }
+    ensures fault { result ≡ Err Status.CabinetFault → Rose (K.faults cabinet.old) (K.faults cabinet.new) }
+    ensures later { K.faults cabinet.old ≤ K.faults cabinet.new }
+{
+    match cabinet.fetch(alloc, file, LARGEST_SOURCE) {
+        Ok(Fetched::Whole(source)) => Ok(source),
+        Ok(Fetched::Absent) => Err(Status::NoFile),
+        Ok(Fetched::TooLong) => Err(Status::Refused(Refusal::Size)),
+        Err(error) => Err(file_status(error)),
+    }
+}
+
+// Whether a source is accepted, or the status that tells why not.
+fn judged(alloc: Global, source: &Bytes) -> Result<(), Status>
+    ensures { Judges source.now result }
+{
+    match check(alloc, source) {
+        Ok(_checked) => Ok(()),
+        Err(error) => Err(check_status(error)),
+    }
 }
 
 // The image of the program that a source is.
-fn compiled(alloc: Global, source: &[u8]) -> Result<Image, Status>
-    requires { length source.now ≤ 1048576 }
+fn compiled(alloc: Global, source: &Bytes) -> Result<Image, Status>
     ensures { Compiles source.now result }
 {
-    let program = match read_program(alloc, source) {
-        Ok(Some(program)) => program,
-        Ok(None) => return Err(Status::Refused(Refusal::Types(TypeError::NotBuilt(1)))),
-        Err(_) => return Err(Status::OutOfMemory),
+    one_answer();
+    let checked = match check(alloc, source) {
+        Ok(checked) => checked,
+        Err(error) => return Err(check_status(error)),
     };
-    match compile(alloc, &program) {
+    match compile(alloc, &checked) {
         Ok(image) => Ok(image),
         Err(_) => Err(Status::OutOfMemory),
+    }
+}
+
+// Whether the source in a file is accepted.
+fn check_file<K: Cabinet>(alloc: Global, file: &Bytes, cabinet: &mut K) -> Result<(), Status>
+    ensures reads { ReadsSource (K.files cabinet.old) file.now result }
+    ensures files { K.files cabinet.new ≡ K.files cabinet.old }
+    ensures fault { result ≡ Err Status.CabinetFault → Rose (K.faults cabinet.old) (K.faults cabinet.new) }
+    ensures later { K.faults cabinet.old ≤ K.faults cabinet.new }
+{
+    one_answer();
+    match source_in(alloc, file, cabinet) {
+        Ok(source) => judged(alloc, &source),
+        Err(status) => Err(status),
     }
 }
 
@@ -96,11 +130,10 @@ fn made_image<K: Cabinet>(alloc: Global, file: &Bytes, cabinet: &mut K) -> Resul
     ensures fault { result ≡ Err Status.CabinetFault → Rose (K.faults cabinet.old) (K.faults cabinet.new) }
     ensures later { K.faults cabinet.old ≤ K.faults cabinet.new }
 {
-    match cabinet.fetch(alloc, file, LARGEST_SOURCE) {
-        Ok(Fetched::Whole(source)) => compiled(alloc, source.as_slice()),
-        Ok(Fetched::Absent) => Err(Status::NoFile),
-        Ok(Fetched::TooLong) => Err(Status::Refused(Refusal::Size)),
-        Err(error) => Err(file_status(error)),
+    one_answer();
+    match source_in(alloc, file, cabinet) {
+        Ok(source) => compiled(alloc, &source),
+        Err(status) => Err(status),
     }
 }
 
@@ -190,9 +223,26 @@ fn run_source<C: Console, K: Cabinet>(
         result }
 {
     meaning_is_run();
-    verdict_is_final();
+    program_is_final();
     match made_image(alloc, file, cabinet) {
         Ok(image) => run_image(alloc, image, console, cabinet, budget),
+        Err(status) => plain(status),
+    }
+}
+
+// `check FILE`
+fn check_source<K: Cabinet>(alloc: Global, file: &Bytes, cabinet: &mut K) -> Report
+    ensures check { (left : Option (List ℕ)) (events : Option (List Event)) (faults : ℕ) → AnswersCheck file.now
+        (record { left = left; events = events; files = K.files cabinet.old; console_faults = faults; cabinet_faults = K.faults cabinet.old })
+        (record { left = left; events = events; files = K.files cabinet.new; console_faults = faults; cabinet_faults = K.faults cabinet.new })
+        result }
+    ensures any { (left : Option (List ℕ)) (events : Option (List Event)) (faults : ℕ) → AnswersAny
+        (record { left = left; events = events; files = K.files cabinet.old; console_faults = faults; cabinet_faults = K.faults cabinet.old })
+        (record { left = left; events = events; files = K.files cabinet.new; console_faults = faults; cabinet_faults = K.faults cabinet.new })
+        result }
+{
+    match check_file(alloc, file, cabinet) {
+        Ok(()) => plain(Status::Ended),
         Err(status) => plain(status),
     }
 }
@@ -276,6 +326,7 @@ pub fn answer<C: Console, K: Cabinet>(
 {
     match command_of(words) {
         Some(Command::Run { file, budget }) => run_source(alloc, file, console, cabinet, budget),
+        Some(Command::Check { file }) => check_source(alloc, file, cabinet),
         Some(Command::Build { file, image }) => build(alloc, file, image, cabinet),
         Some(Command::Exec { image, budget }) => exec(alloc, image, console, cabinet, budget),
         None => plain(Status::Usage),

@@ -12,6 +12,8 @@ use tu_base::{Bytes, Words};
 pub enum Command<'a> {
     /// Compile the program in a file, and run it for at most `budget` instructions.
     Run { file: &'a Bytes, budget: u64 },
+    /// Check the program in a file.
+    Check { file: &'a Bytes },
     /// Compile the program in a file, and keep its image.
     Build { file: &'a Bytes, image: &'a Bytes },
     /// Run an image for at most `budget` instructions.
@@ -86,6 +88,10 @@ pub fn command_of(words: &Words) -> Option<Command<'_>>
                 budget,
             }),
             None => None,
+        },
+        b"check" => match more {
+            [] => Some(Command::Check { file: first }),
+            _ => None,
         },
         b"build" => match more {
             [image] if !image.is_empty() => Some(Command::Build { file: first, image }),

@@ -3,19 +3,12 @@
 
 mod answer;
 mod command;
-mod emitter;
-mod laws;
-mod lexer;
 mod note;
-mod program;
-mod reader;
+mod reason;
 mod report;
-mod token;
 mod top;
-mod value;
 
-pub use laws::{emitted_agrees, emitted_runs, outcome_is_meant};
-pub use report::{Refusal, Report, Status, TypeError};
+pub use report::{Report, Status};
 pub use top::turing;
 
 #[cfg(test)]

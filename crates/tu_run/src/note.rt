@@ -1,9 +1,11 @@
 // The one line that tells of a status. It takes no memory.
 ghost use Rattle.std.specs.Prelude.{◌≡◌, ◌≢◌, ◌≤◌, ◌<◌, ◌+◌, ◌++◌, ◌∷◌, [], length, decimal, codes, true, false};
 ghost use Rattle.tu_base.specs.Kind.{kind_name};
-ghost use Rattle.tu_run.specs.Note.{note_lines, at_line, error_name, fault_name, hexadecimal, hexadecimal_digit, IsShown};
+ghost use Rattle.tu_run.specs.Reason.{at_line};
+ghost use Rattle.tu_run.specs.Note.{note_lines, error_name, fault_name, hexadecimal, hexadecimal_digit, IsShown};
 
-use crate::{Refusal, Status, TypeError};
+use crate::Status;
+use crate::reason::put_refusal;
 use arrayvec::ArrayString;
 use itoa::Buffer;
 use rv_image::ImageError;
@@ -11,11 +13,12 @@ use rv_isa::FaultKind;
 use tu_base::Line;
 use tu_outside::Notes;
 
-const ROOM: usize = 96;
+pub const ROOM: usize = 96;
 
-const USAGE: &str = "usage: turing run FILE [budget=N] | build FILE IMAGE | exec IMAGE [budget=N]";
+const USAGE: &str =
+    "usage: turing run FILE [budget=N] | check FILE | build FILE IMAGE | exec IMAGE [budget=N]";
 
-fn put(text: &mut ArrayString<ROOM>, more: &str)
+pub fn put(text: &mut ArrayString<ROOM>, more: &str)
     requires { length text.old.bytes + length more.now ≤ 96 }
     ensures { text.new.bytes ≡ text.old.bytes ++ more.now }
 {
@@ -23,7 +26,7 @@ fn put(text: &mut ArrayString<ROOM>, more: &str)
 }
 
 // `line L: TEXT`
-fn put_line(text: &mut ArrayString<ROOM>, line: Line, more: &str)
+pub fn put_line(text: &mut ArrayString<ROOM>, line: Line, more: &str)
     requires empty { text.old.bytes ≡ [] }
     requires short { length more.now ≤ 40 }
     ensures { text.new.bytes ≡ at_line line more.now }
@@ -143,10 +146,7 @@ fn put_note(text: &mut ArrayString<ROOM>, count: u64, status: Status) -> bool
     match status {
         Status::Ended | Status::NoteFault => return false,
         Status::Stopped { kind, line } => put_line(text, line, kind.name()),
-        Status::Refused(Refusal::Size) => put(text, "refused: Size"),
-        Status::Refused(Refusal::Types(TypeError::NotBuilt(line))) => {
-            put_line(text, line, "Types NotBuilt")
-        }
+        Status::Refused(refusal) => put_refusal(text, refusal),
         Status::Usage => put(text, USAGE),
         Status::NoFile => put(text, "no such file"),
         Status::BadImage(error) => put_bad_image(text, error),

@@ -1,30 +1,16 @@
 use rv_image::{Image, ImageError};
 use rv_isa::FaultKind;
 use tu_base::{Kind, Line};
-
-/// Why the types of a source are refused, and at which line.
-#[derive(Clone, Copy, Debug, PartialEq, Eq)]
-pub enum TypeError {
-    /// A form of the language that is not built.
-    NotBuilt(Line),
-}
-
-/// Why a source is refused.
-#[derive(Clone, Copy, Debug, PartialEq, Eq)]
-pub enum Refusal {
-    /// It has more than 1,048,576 bytes.
-    Size,
-    Types(TypeError),
-}
+use tu_token::Refusal;
 
 /// How a command ended.
 #[derive(Clone, Copy, Debug, PartialEq, Eq)]
 pub enum Status {
-    /// The program ended.
+    /// The program ended, or the source is accepted, or its image is kept.
     Ended,
     /// The program was stopped by an exception at a line.
     Stopped { kind: Kind, line: Line },
-    /// The source is no program.
+    /// The source is not accepted.
     Refused(Refusal),
     /// The words are no command.
     Usage,

@@ -2,13 +2,16 @@ mod commands;
 mod images;
 mod words;
 
-use crate::{Refusal, Report, Status, TypeError, turing};
+use crate::{Report, Status, turing};
 use std::alloc::Global;
 use std::test::Fail;
 use tu_base::{Bytes, Event, Kind, Memory, Numbers, Words};
 use tu_outside::{Cabinet, CabinetError, MemoryCabinet, MemoryConsole, MemoryNotes};
+use tu_token::{LexError, Refusal, TypeError};
 
 const NOT_BUILT: Status = Status::Refused(Refusal::Types(TypeError::NotBuilt(1)));
+
+const BAD_NUMBER: Status = Status::Refused(Refusal::Lexical(LexError::BadNumber(1)));
 
 const OVERFLOW: Status = Status::Stopped {
     kind: Kind::Overflow,
@@ -46,11 +49,12 @@ const AMPLE: Plan = Plan {
     bytes: 1000,
 };
 
-// How a command is to answer, and what it is to write.
+// How a command is to answer, and what it is to write. A count of instructions is looked at only where
+// one is given.
 #[derive(Clone, Copy)]
 struct Answer {
     status: Status,
-    count: u64,
+    count: Option<u64>,
     output: &'static [u8],
     note: &'static str,
 }
@@ -117,7 +121,8 @@ fn is_answered(
     answer: Answer,
 ) -> Result<bool, Memory> {
     let report = command(alloc, line, outside)?;
-    let same = report.status == answer.status && report.instructions == answer.count;
+    let counted = answer.count.is_none() || answer.count == Some(report.instructions);
+    let same = report.status == answer.status && counted;
     let noted = has_noted(alloc, &outside.notes, answer.note)?;
     Ok(same && noted && has_written(&outside.console, answer.output))
 }
@@ -128,53 +133,167 @@ fn is_run(alloc: Global, source: &[u8], answer: Answer) -> Result<bool, CabinetE
     Ok(is_answered(alloc, "run a.t", &mut outside, answer)?)
 }
 
-// A source, and its status, instructions, output and note.
-const SOURCES: [(&[u8], Status, u64, &[u8], &str); 14] = [
-    (b"put 1 + 2 * 3\n", Status::Ended, 8, b"7\n", ""),
-    (b"put 2 - 3 * 4 - 5", Status::Ended, 8, b"-15\n", ""),
-    (b"\r\n\tput\n007*2", Status::Ended, 8, b"14\n", ""),
-    (b"put 1 put 2", Status::Ended, 8, b"1\n2\n", ""),
-    (b"put 2147483647", Status::Ended, 8, b"2147483647\n", ""),
+// A source that is run, and its status, output and note.
+const SOURCES: [(&[u8], Status, &[u8], &str); 8] = [
+    (b"put 1 + 2 * 3\n", Status::Ended, b"7\n", ""),
+    (b"put 2 - 3 * 4 - 5", Status::Ended, b"-15\n", ""),
+    (b"put 2 - 3 * (4 - 5)", Status::Ended, b"5\n", ""),
+    (b"put 1 /* a % b */ + 2;", Status::Ended, b"3\n", ""),
     (
-        b"put 0 - 2147483647",
+        b"% one\nput 1 % two\n;put 2; put ((1 + 2)) * (3 - (4))\r\n\tput\n007*2\nput 2147483647 put 0 - 2147483647",
         Status::Ended,
-        8,
-        b"-2147483647\n",
+        b"1\n2\n-3\n14\n2147483647\n-2147483647\n",
         "",
     ),
-    (b"", Status::Ended, 2, b"", ""),
-    (b"put 2147483647 + 1", OVERFLOW, 5, b"", "line 1: Overflow"),
+    (b"", Status::Ended, b"", ""),
+    (b"put 2147483647 + 1", OVERFLOW, b"", "line 1: Overflow"),
     (
-        b"put 5\n\nput 2147483647 * 2\nput 6\n",
+        b"put 5\n\nput (2147483647 * 2) * 0\nput 6\n",
         OVERFLOW_AT_3,
-        11,
         b"5\n",
         "line 3: Overflow",
     ),
-    (
-        b"put 2147483648",
-        NOT_BUILT,
-        0,
-        b"",
-        "line 1: Types NotBuilt",
-    ),
-    (b"put 1put 2", NOT_BUILT, 0, b"", "line 1: Types NotBuilt"),
-    (b"put1", NOT_BUILT, 0, b"", "line 1: Types NotBuilt"),
-    (b"put 1 +", NOT_BUILT, 0, b"", "line 1: Types NotBuilt"),
-    (b"put -1", NOT_BUILT, 0, b"", "line 1: Types NotBuilt"),
 ];
 
+const ACCEPTED: Answer = Answer {
+    status: Status::Ended,
+    count: Some(0),
+    output: b"",
+    note: "",
+};
+
+// Whether `check` answers so of a source in the file `a.t`, and leaves the file.
+fn is_checked(alloc: Global, source: &[u8], answer: Answer) -> Result<bool, CabinetError> {
+    let mut outside = make_outside(alloc, source, AMPLE)?;
+    let answered = is_answered(alloc, "check a.t", &mut outside, answer)?;
+    Ok(
+        match outside.cabinet.file(&Bytes::from_slice(alloc, b"a.t")?) {
+            Some(kept) => answered && kept.as_slice() == source,
+            None => false,
+        },
+    )
+}
+
 #[test]
-fn sources_are_run_or_refused(rt: HostRuntime) -> Result<(), Fail> {
-    for (source, status, count, output, note) in SOURCES {
+fn sources_are_checked_and_run(rt: HostRuntime) -> Result<(), Fail> {
+    for (source, status, output, note) in SOURCES {
         let answer = Answer {
             status,
-            count,
+            count: None,
             output,
             note,
         };
+        assert!(rt; is_checked(rt.alloc(), source, ACCEPTED)?);
         assert!(rt; is_run(rt.alloc(), source, answer)?);
     }
+    Ok(())
+}
+
+// How a refused source is answered.
+fn refused(status: Status, note: &'static str) -> Answer {
+    Answer {
+        status,
+        count: Some(0),
+        output: b"",
+        note,
+    }
+}
+
+// Whether a source is refused so by `run` and by `check`.
+fn is_refused(
+    alloc: Global,
+    source: &[u8],
+    status: Status,
+    note: &'static str,
+) -> Result<bool, CabinetError> {
+    let checked = is_checked(alloc, source, refused(status, note))?;
+    Ok(checked && is_run(alloc, source, refused(status, note))?)
+}
+
+const NOT_BUILT_AT_2: Status = Status::Refused(Refusal::Types(TypeError::NotBuilt(2)));
+
+const OPEN_TEXT: Status = Status::Refused(Refusal::Lexical(LexError::OpenText(1)));
+
+const UNEXPECTED: Status = Status::Refused(Refusal::Syntax(1));
+
+const UNEXPECTED_AT_2: Status = Status::Refused(Refusal::Syntax(2));
+
+// A source, and why it is refused.
+const REFUSED: [(&[u8], Status, &str); 17] = [
+    (b"put 2147483648", BAD_NUMBER, "line 1: Lexical BadNumber"),
+    (b"put 1put 2", BAD_NUMBER, "line 1: Lexical BadNumber"),
+    (b"put \"a", OPEN_TEXT, "line 1: Lexical OpenText"),
+    (b"if true then", UNEXPECTED, "line 1: Syntax Unexpected"),
+    (
+        b"if true then\n",
+        UNEXPECTED_AT_2,
+        "line 2: Syntax Unexpected",
+    ),
+    (
+        b"if 1 = 1\nput 1",
+        UNEXPECTED_AT_2,
+        "line 2: Syntax Unexpected",
+    ),
+    (b"end", UNEXPECTED, "line 1: Syntax Unexpected"),
+    (b"put 1 )", UNEXPECTED, "line 1: Syntax Unexpected"),
+    (b"put 1 +\n", UNEXPECTED_AT_2, "line 2: Syntax Unexpected"),
+    (
+        b"put true\nput put",
+        UNEXPECTED_AT_2,
+        "line 2: Syntax Unexpected",
+    ),
+    (b"module M end M", NOT_BUILT, "line 1: Types NotBuilt"),
+    (b"put1", NOT_BUILT, "line 1: Types NotBuilt"),
+    (b"put -1", NOT_BUILT, "line 1: Types NotBuilt"),
+    (b"put 1 ..", NOT_BUILT, "line 1: Types NotBuilt"),
+    (b"put 1\nput 1, 2", NOT_BUILT_AT_2, "line 2: Types NotBuilt"),
+    (
+        b"put 1 *\n(2 div 3)\nput true",
+        NOT_BUILT_AT_2,
+        "line 2: Types NotBuilt",
+    ),
+    (
+        b"put 1 +\nx * 2\nreturn",
+        NOT_BUILT_AT_2,
+        "line 2: Types NotBuilt",
+    ),
+];
+
+#[test]
+fn sources_are_refused(rt: HostRuntime) -> Result<(), Fail> {
+    for (source, status, note) in REFUSED {
+        assert!(rt; is_refused(rt.alloc(), source, status, note)?);
+    }
+    Ok(())
+}
+
+// A number in so many brackets.
+fn in_brackets(alloc: Global, count: usize) -> Result<Bytes, Memory> {
+    let mut source = Bytes::from_slice(alloc, b"put ")?;
+    for _ in 0..count {
+        source.add(b'(')?;
+    }
+    source.add(b'1')?;
+    for _ in 0..count {
+        source.add(b')')?;
+    }
+    Ok(source)
+}
+
+#[test]
+fn brackets_are_as_deep_as_may_be(rt: HostRuntime) -> Result<(), Fail> {
+    let alloc = rt.alloc();
+    let ended = Answer {
+        status: Status::Ended,
+        count: None,
+        output: b"1\n",
+        note: "",
+    };
+    let deep = Status::Refused(Refusal::Lexical(LexError::TooDeep(1)));
+    let deepest = in_brackets(alloc, 32)?;
+    let deeper = in_brackets(alloc, 33)?;
+    assert!(rt; is_run(alloc, deepest.as_slice(), ended)?);
+    assert!(rt; is_refused(alloc, deeper.as_slice(), deep, "line 1: Lexical TooDeep")?);
     Ok(())
 }
 
@@ -184,18 +303,13 @@ fn the_largest_source(rt: HostRuntime) -> Result<(), Fail> {
     let larger = vec![in alloc; b' '; 1_048_577]?;
     let ended = Answer {
         status: Status::Ended,
-        count: 2,
+        count: None,
         output: b"",
         note: "",
     };
-    let refused = Answer {
-        status: Status::Refused(Refusal::Size),
-        count: 0,
-        output: b"",
-        note: "refused: Size",
-    };
+    let size = Status::Refused(Refusal::Size);
     assert!(rt; is_run(alloc, &larger[1..], ended)?);
-    assert!(rt; is_run(alloc, &larger, refused)?);
+    assert!(rt; is_refused(alloc, &larger, size, "refused: Size")?);
     Ok(())
 }
 

@@ -1,6 +1,6 @@
 // The rows of the command table.
 use super::{
-    AMPLE, Answer, NOT_BUILT, OVERFLOW, Outside, Plan, command, is_answered, make_outside,
+    AMPLE, Answer, BAD_NUMBER, OVERFLOW, Outside, Plan, command, is_answered, make_outside,
 };
 use crate::Status;
 use std::alloc::Global;
@@ -10,13 +10,13 @@ use tu_outside::{CabinetError, MemoryCabinet};
 
 const USAGE: Answer = Answer {
     status: Status::Usage,
-    count: 0,
+    count: Some(0),
     output: b"",
-    note: "usage: turing run FILE [budget=N] | build FILE IMAGE | exec IMAGE [budget=N]",
+    note: "usage: turing run FILE [budget=N] | check FILE | build FILE IMAGE | exec IMAGE [budget=N]",
 };
 
 // Words with blanks between them, so that a blank at the end stands before an empty word.
-const NO_COMMANDS: [&str; 18] = [
+const NO_COMMANDS: [&str; 21] = [
     "",
     "run",
     "run ",
@@ -29,6 +29,9 @@ const NO_COMMANDS: [&str; 18] = [
     "run a.t budget=1 budget=2",
     "run a.t budget=9223372036854775808",
     "run a.t budget=00000000000000000001",
+    "check",
+    "check ",
+    "check a.t a.t",
     "build a.t",
     "build a.t ",
     "build a.t a.img budget=1",
@@ -47,46 +50,53 @@ fn words_are_a_command_or_usage(rt: HostRuntime) -> Result<(), Fail> {
     Ok(())
 }
 
-// A command on a program that puts 7, and its status, instructions, output and note.
-const COMMANDS: [(&str, Status, u64, &[u8], &str); 8] = [
+// A command on a program that puts 7, and its status, instructions where they are told, output and note.
+const COMMANDS: [(&str, Status, Option<u64>, &[u8], &str); 9] = [
     (
         "run a.t budget=0",
         Status::Spent,
-        0,
+        Some(0),
         b"",
         "spent after 0 instructions",
     ),
     (
-        "run a.t budget=5",
+        "run a.t budget=1",
         Status::Spent,
-        5,
+        Some(1),
         b"",
-        "spent after 5 instructions",
+        "spent after 1 instructions",
     ),
     (
-        "run a.t budget=6",
-        Status::Spent,
-        6,
-        b"7\n",
-        "spent after 6 instructions",
-    ),
-    (
-        "run a.t budget=0000000000000000008",
+        "run a.t budget=0000000000000050000",
         Status::Ended,
-        8,
+        None,
         b"7\n",
         "",
     ),
     (
         "run a.t budget=9223372036854775807",
         Status::Ended,
-        8,
+        None,
         b"7\n",
         "",
     ),
-    ("run none.t", Status::NoFile, 0, b"", "no such file"),
-    ("build none.t a.img", Status::NoFile, 0, b"", "no such file"),
-    ("exec none.img", Status::NoFile, 0, b"", "no such file"),
+    ("check a.t", Status::Ended, Some(0), b"", ""),
+    ("run none.t", Status::NoFile, Some(0), b"", "no such file"),
+    ("check none.t", Status::NoFile, Some(0), b"", "no such file"),
+    (
+        "build none.t a.img",
+        Status::NoFile,
+        Some(0),
+        b"",
+        "no such file",
+    ),
+    (
+        "exec none.img",
+        Status::NoFile,
+        Some(0),
+        b"",
+        "no such file",
+    ),
 ];
 
 #[test]
@@ -134,13 +144,12 @@ fn is_built(alloc: Global, source: &[u8], answer: Answer) -> Result<bool, Cabine
     Ok(ended && kept && ran)
 }
 
-// A source, and its status, instructions, output and note.
-const SOURCES: [(&[u8], Status, u64, &[u8], &str); 2] = [
-    (b"put 1 + 2 * 3\n", Status::Ended, 8, b"7\n", ""),
+// A source, and its status, output and note.
+const SOURCES: [(&[u8], Status, &[u8], &str); 2] = [
+    (b"put 1 + 2 * 3\n", Status::Ended, b"7\n", ""),
     (
         b"put 5 put 2147483647 + 1",
         OVERFLOW,
-        11,
         b"5\n",
         "line 1: Overflow",
     ),
@@ -148,10 +157,10 @@ const SOURCES: [(&[u8], Status, u64, &[u8], &str); 2] = [
 
 #[test]
 fn what_is_built_runs_as_the_source_does(rt: HostRuntime) -> Result<(), Fail> {
-    for (source, status, count, output, note) in SOURCES {
+    for (source, status, output, note) in SOURCES {
         let answer = Answer {
             status,
-            count,
+            count: None,
             output,
             note,
         };
@@ -163,7 +172,7 @@ fn what_is_built_runs_as_the_source_does(rt: HostRuntime) -> Result<(), Fail> {
 // A source, the call of the cabinet that fails, the status, and whether an image was made that was
 // not kept.
 const NOT_KEPT: [(&[u8], u64, Status, bool); 2] = [
-    (b"put 1put 2", 0, NOT_BUILT, false),
+    (b"put 1put 2", 0, BAD_NUMBER, false),
     (b"put 1", 3, Status::CabinetFault, true),
 ];
 

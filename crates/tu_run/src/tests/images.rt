@@ -57,7 +57,7 @@ fn error_note(error: ImageError) -> &'static str {
 fn is_bad(alloc: Global, bytes: &[u8], error: ImageError) -> Result<bool, CabinetError> {
     let answer = Answer {
         status: Status::BadImage(error),
-        count: 0,
+        count: Some(0),
         output: b"",
         note: error_note(error),
     };
@@ -66,7 +66,7 @@ fn is_bad(alloc: Global, bytes: &[u8], error: ImageError) -> Result<bool, Cabine
 
 const ENDED: Answer = Answer {
     status: Status::Ended,
-    count: 1,
+    count: Some(1),
     output: b"",
     note: "",
 };
@@ -201,7 +201,7 @@ fn texts_that_fault(rt: HostRuntime) -> Result<(), Fail> {
     for (words, kind, pc, count, note) in TEXTS {
         let answer = Answer {
             status: Status::MachineFault { kind, pc },
-            count,
+            count: Some(count),
             output: b"",
             note,
         };
@@ -213,7 +213,7 @@ fn texts_that_fault(rt: HostRuntime) -> Result<(), Fail> {
 
 const SPENT: Answer = Answer {
     status: Status::Spent,
-    count: 50000,
+    count: Some(50000),
     output: b"",
     note: "spent after 50000 instructions",
 };
@@ -361,7 +361,7 @@ fn first_byte(alloc: Global) -> Result<Bytes, Memory> {
 
 const FIRST_BYTE: Answer = Answer {
     status: Status::Ended,
-    count: 15,
+    count: Some(15),
     output: b"p",
     note: "",
 };

@@ -15,4 +15,4 @@ pub returns-in-Err-clause-any : goal.returns-in-Err-clause-any
 returns-in-Err-clause-any g c =
     let shows = read_shows c.in-Err.status (c.in-Err.ensures.reads.kind c.in-Err.status refl) in
     rw c.plain.ensures (nothing_done _ c.in-Err.status (g.K.Cabinet.files c.read_image.new.cabinet) (g.K.Cabinet.faults c.read_image.new.cabinet)
-    c.read_image.ensures.files c.read_image.ensures.later shows.0 shows.1 (λ e. c.in-Err.ensures.fault (ap Err e)))
+    c.read_image.ensures.files c.read_image.ensures.later shows.1 (λ e. c.in-Err.ensures.fault (ap Err e)))

@@ -4,7 +4,7 @@ use Rattle.tu_run.proofs.answer.run_source.Goals as goal
 
 pub returns-in-Ok-clause-run : goal.returns-in-Ok-clause-run
 returns-in-Ok-clause-run g c =
-    run_answers c.meaning_is_run.ensures c.verdict_is_final.ensures c.args.file.now c.args.budget _ _ c.run_image.result c.in-Ok.image
+    run_answers c.meaning_is_run.ensures c.program_is_final.ensures c.args.file.now c.args.budget _ _ c.run_image.result c.in-Ok.image
     (g.K.Cabinet.files c.made_image.new.cabinet) (g.K.Cabinet.faults c.made_image.new.cabinet)
     c.in-Ok.ensures.makes c.made_image.ensures.files c.run_image.ensures.image c.run_image.ensures.status c.run_image.ensures.runs
 
@@ -13,6 +13,6 @@ returns-in-Err-clause-run g c = rw c.plain.ensures (run_failed c.args.file.now c
 
 pub returns-in-Err-clause-any : goal.returns-in-Err-clause-any
 returns-in-Err-clause-any g c =
-    let shows = fails_shows c.in-Err.status (c.in-Err.ensures.makes.kind c.in-Err.status refl) in
+    let shows = fails_shows c.in-Err.status (c.in-Err.ensures.makes.read.kind c.in-Err.status refl) in
     rw c.plain.ensures (nothing_done _ c.in-Err.status (g.K.Cabinet.files c.made_image.new.cabinet) (g.K.Cabinet.faults c.made_image.new.cabinet)
-    c.made_image.ensures.files c.made_image.ensures.later shows.0 shows.1 (λ e. c.in-Err.ensures.fault (ap Err e)))
+    c.made_image.ensures.files c.made_image.ensures.later shows.1 (λ e. c.in-Err.ensures.fault (ap Err e)))

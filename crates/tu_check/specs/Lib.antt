@@ -1,0 +1,5 @@
+pub mod Built
+pub mod Refusals
+pub mod Errors
+pub mod Limits
+pub mod Laws

@@ -1,0 +1,51 @@
+-- Which sources are accepted, and why the others are refused: the first group with a fault, at its least place.
+use Rattle.std.specs.Prelude.{◌≡◌, ℕ, ◌<◌, ◌≤◌, List, length, Some, None}
+use Rattle.tu_token.specs.declared.fault.Refusal.{Refusal}
+use Rattle.tu_token.specs.declared.fault.Refusal.TheVariants.{Size, Lexical, Syntax, Types}
+use Rattle.tu_token.specs.declared.fault.TypeError.TheVariants.{NotBuilt}
+use Rattle.tu_token.specs.Lexemes.{IsLexed}
+use Rattle.tu_token.specs.LexFaults.{HasNoFault, IsLexFault}
+use Rattle.tu_token.specs.Rules.{r-program}
+use Rattle.tu_token.specs.Syntax.{Of, IsSyntaxFault}
+use Rattle.tu_token.specs.TokenList.{TokenList}
+use Rattle.tu_parse.specs.Parsing.{line_at, IsTreeOf}
+use Rattle.tu_check.specs.Built.{unbuilt_program}
+
+-- at most 1,048,576 bytes without a lexical fault, which are these tokens
+pub record HasTokens (source : List ℕ) (tokens : TokenList) : Type 0 where
+  pub size : length source ≤ 1048576
+  pub no_fault : HasNoFault source
+  pub lexed : IsLexed source tokens
+
+-- the tokens are this tree, with their places
+pub record HasTree (source : List ℕ) (tree : Of r-program) : Type 0 where
+  pub tokens : TokenList
+  pub spelled : HasTokens source tokens
+  pub parsed : IsTreeOf tokens tree
+
+-- the source is this tree, and all forms in it are built
+pub record IsAccepted (source : List ℕ) (tree : Of r-program) : Type 0 where
+  pub read : HasTree source tree
+  pub built : unbuilt_program tree ≡ None
+
+-- the tokens are no tree, and the one at fault is on this line
+pub record HasSyntaxFault (source : List ℕ) (line : ℕ) : Type 0 where
+  pub tokens : TokenList
+  pub spelled : HasTokens source tokens
+  pub place : ℕ
+  pub fault : IsSyntaxFault tokens place
+  pub line_is : line ≡ line_at tokens place
+
+-- the source is a tree, in which the first form that is not built is on this line
+pub record HasUnbuilt (source : List ℕ) (line : ℕ) : Type 0 where
+  pub tree : Of r-program
+  pub read : HasTree source tree
+  pub found : unbuilt_program tree ≡ Some line
+
+-- No other group is looked at yet.
+abbrev pub IsRefused : List ℕ → Refusal → Type 0
+IsRefused source Size = 1048576 < length source
+IsRefused source (Lexical error) = (length source ≤ 1048576) × IsLexFault source error
+IsRefused source (Syntax line) = HasSyntaxFault source line
+IsRefused source (Types (NotBuilt line)) = HasUnbuilt source line
+IsRefused source other = ⊥

@@ -1,0 +1,39 @@
+// Why a source is not checked.
+ghost use Rattle.std.specs.Prelude.{◌≡◌};
+ghost use Rattle.tu_check.specs.Errors.{lexical_error, syntax_error};
+
+use thiserror::Error;
+use tu_token::{LexError, ParseError, Refusal};
+
+/// Why a source is not checked.
+#[derive(Clone, Copy, PartialEq, Eq, Debug, Error)]
+pub enum CheckError {
+    /// It is refused.
+    #[error(transparent)]
+    Refused(Refusal),
+    /// Want of memory.
+    #[error("out of memory")]
+    Memory,
+}
+
+impl From<LexError> for CheckError {
+    ghost from_gives = { λ error given. given ≡ lexical_error error };
+
+    fn from(error: LexError) -> Self {
+        match error {
+            LexError::Memory => CheckError::Memory,
+            error => CheckError::Refused(Refusal::Lexical(error)),
+        }
+    }
+}
+
+impl From<ParseError> for CheckError {
+    ghost from_gives = { λ error given. given ≡ syntax_error error };
+
+    fn from(error: ParseError) -> Self {
+        match error {
+            ParseError::Unexpected { line, .. } => CheckError::Refused(Refusal::Syntax(line)),
+            ParseError::Memory => CheckError::Memory,
+        }
+    }
+}

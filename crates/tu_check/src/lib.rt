@@ -1,0 +1,12 @@
+//! Which sources are accepted, and why the others are refused.
+#![tactic(auto)]
+
+mod built;
+mod checker;
+mod error;
+mod laws;
+
+pub use built::unbuilt_program;
+pub use checker::{Checked, check};
+pub use error::CheckError;
+pub use laws::{accepted_has_limits, one_answer, some_answer};

@@ -1,0 +1,4 @@
+pub mod Emitted
+pub mod Outcome
+pub mod Laws
+pub mod Runs

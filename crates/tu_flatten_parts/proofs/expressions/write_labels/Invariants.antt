@@ -1,0 +1,9 @@
+use Rattle.grammar.specs.Description.{rule}
+use Rattle.grammar.specs.Tree.{n-sequence, n-token}
+use Rattle.tu_token.specs.declared.class.Class.TheVariants.{SignComma}
+use Rattle.tu_token.specs.Rules.{◌⨟◌, t, r-expr}
+use Rattle.tu_flatten_parts.proofs.Lists.{Turns}
+use Rattle.tu_flatten_parts.proofs.expressions.write_labels.Given as goal
+
+abbrev pub invariant-loop-x : goal.invariant-loop-x
+invariant-loop-x l = Turns (t SignComma ⨟ rule r-expr) (λ x. n-sequence n-token x) l.x-items l.x-index l.initial.out l.out

@@ -1,0 +1,4 @@
+pub mod Starts
+pub mod Equal
+pub mod Arms
+pub mod Places

@@ -1,0 +1,12 @@
+use Rattle.std.proofs.Common.{refl}
+use Rattle.tu_reader.proofs.Steps.{◌▸◌, ◌▹◌, left_takes, none_takes, left_stops, exits}
+use Rattle.tu_parse.proofs.blocks.BlockReader.otherwise.Goals as goal
+
+pub returns-in_err-block-clause-reads : goal.returns-in_err-block-clause-reads
+returns-in_err-block-clause-reads g c = exits _ _ _ _ c.from_residual.ensures.1 (left_stops c.if-eat.ensures.eats.0 (c.if-eat.ensures.eats.1 ▹ c.in_err-block.ensures.reads))
+
+pub returns-then-eat-clause-reads : goal.returns-then-eat-clause-reads
+returns-then-eat-clause-reads g c = left_takes refl (c.if-eat.ensures.eats.1 ▸ c.in_ok-block.ensures.reads)
+
+pub returns-clause-reads : goal.returns-clause-reads
+returns-clause-reads g c = none_takes c.if-eat.ensures.eats.0 c.if-eat.ensures.eats.1

@@ -1,0 +1,46 @@
+use Rattle.std.proofs.Common.{refl, [], ◌∷◌}
+use Rattle.tu_reader.proofs.Steps.{left_takes, right_takes, right_stops, exits}
+use Rattle.tu_reader.proofs.Choices.{others_start, is_at, choice_takes, choice_stops, end_stops}
+use Rattle.tu_token.specs.declared.class.Class.TheVariants.{WordBody, WordConst, WordForward, WordFunction, WordModule, WordProcedure, WordType, WordVar}
+use Rattle.tu_token.specs.Rules.{body, r-item}
+use Rattle.tu_parse.proofs.Starts.{item_stops}
+use Rattle.tu_parse.proofs.programs.item_form.Goals as goal
+
+pub returns-in_default-clause-reads : goal.returns-in_default-clause-reads
+returns-in_default-clause-reads c = end_stops refl c.in_default.ensures
+
+pub returns-in_err-part-in-WordConst-clause-reads : goal.returns-in_err-part-in-WordConst-clause-reads
+returns-in_err-part-in-WordConst-clause-reads c = exits _ _ _ _ c.from_residual.ensures.1 (choice_stops (is_at c.in-Some.ensures c.in-WordConst.is) (body r-item) c.in_err-part-in-WordConst.ensures.reads)
+
+pub returns-in_ok-part-in-WordConst-clause-reads : goal.returns-in_ok-part-in-WordConst-clause-reads
+returns-in_ok-part-in-WordConst-clause-reads c = choice_takes (is_at c.in-Some.ensures c.in-WordConst.is) (body r-item) _ c.in_ok-part-in-WordConst.ensures.reads
+
+pub returns-in_err-part-in-WordVar-clause-reads : goal.returns-in_err-part-in-WordVar-clause-reads
+returns-in_err-part-in-WordVar-clause-reads c = exits _ _ _ _ c.from_residual-in_err-part-in-WordVar.ensures.1 (choice_stops (is_at c.in-Some.ensures c.in-WordVar.is) (body r-item) c.in_err-part-in-WordVar.ensures.reads)
+
+pub returns-in_ok-part-in-WordVar-clause-reads : goal.returns-in_ok-part-in-WordVar-clause-reads
+returns-in_ok-part-in-WordVar-clause-reads c = choice_takes (is_at c.in-Some.ensures c.in-WordVar.is) (body r-item) _ c.in_ok-part-in-WordVar.ensures.reads
+
+pub returns-in_err-part-in-WordType-clause-reads : goal.returns-in_err-part-in-WordType-clause-reads
+returns-in_err-part-in-WordType-clause-reads c = exits _ _ _ _ c.from_residual-in_err-part-in-WordType.ensures.1 (choice_stops (is_at c.in-Some.ensures c.in-WordType.is) (body r-item) c.in_err-part-in-WordType.ensures.reads)
+
+pub returns-in_ok-part-in-WordType-clause-reads : goal.returns-in_ok-part-in-WordType-clause-reads
+returns-in_ok-part-in-WordType-clause-reads c = choice_takes (is_at c.in-Some.ensures c.in-WordType.is) (body r-item) _ c.in_ok-part-in-WordType.ensures.reads
+
+pub returns-in_err-part-in_default-class-clause-reads : goal.returns-in_err-part-in_default-class-clause-reads
+returns-in_err-part-in_default-class-clause-reads c = exits _ _ _ _ c.from_residual-in_err-part-in_default-class.ensures.1 (right_stops (others_start c.in-Some.ensures (WordConst ∷ []) (c.in_default-class.not-WordConst, tt)) (right_stops (others_start c.in-Some.ensures (WordVar ∷ []) (c.in_default-class.not-WordVar, tt)) (right_stops (others_start c.in-Some.ensures (WordType ∷ []) (c.in_default-class.not-WordType, tt)) (right_stops (others_start c.in-Some.ensures (WordForward ∷ (WordBody ∷ (WordProcedure ∷ (WordFunction ∷ [])))) (c.in_default-class.not-WordForward, (c.in_default-class.not-WordBody, (c.in_default-class.not-WordProcedure, (c.in_default-class.not-WordFunction, tt))))) (right_stops (others_start c.in-Some.ensures (WordModule ∷ []) (c.in_default-class.not-WordModule, tt)) (c.in_err-part-in_default-class.ensures.reads))))))
+
+pub returns-in_ok-part-in_default-class-clause-reads : goal.returns-in_ok-part-in_default-class-clause-reads
+returns-in_ok-part-in_default-class-clause-reads c = right_takes refl refl (right_takes refl refl (right_takes refl refl (right_takes refl refl (right_takes refl refl (c.in_ok-part-in_default-class.ensures.reads)))))
+
+pub returns-in_err-part-in-WordForward-clause-reads : goal.returns-in_err-part-in-WordForward-clause-reads
+returns-in_err-part-in-WordForward-clause-reads c = exits _ _ _ _ c.from_residual-in_err-part-in-WordForward.ensures.1 (item_stops c.in-Some.ensures c.in-WordForward.is c.in_err-part-in-WordForward.ensures.reads)
+
+pub returns-in_ok-new-in-WordForward-clause-reads : goal.returns-in_ok-new-in-WordForward-clause-reads
+returns-in_ok-new-in-WordForward-clause-reads c = rw c.in_ok-new-in-WordForward.ensures (right_takes refl refl (right_takes refl refl (right_takes refl refl (left_takes refl c.in_ok-part-in-WordForward.ensures.reads))))
+
+pub returns-in_err-part-in-WordModule-clause-reads : goal.returns-in_err-part-in-WordModule-clause-reads
+returns-in_err-part-in-WordModule-clause-reads c = exits _ _ _ _ c.from_residual-in_err-part-in-WordModule.ensures.1 (choice_stops (is_at c.in-Some.ensures c.in-WordModule.is) (body r-item) c.in_err-part-in-WordModule.ensures.reads)
+
+pub returns-in_ok-new-in-WordModule-clause-reads : goal.returns-in_ok-new-in-WordModule-clause-reads
+returns-in_ok-new-in-WordModule-clause-reads c = rw c.in_ok-new-in-WordModule.ensures (choice_takes (is_at c.in-Some.ensures c.in-WordModule.is) (body r-item) _ c.in_ok-part-in-WordModule.ensures.reads)

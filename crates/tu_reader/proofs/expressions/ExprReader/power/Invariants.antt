@@ -1,0 +1,14 @@
+use Rattle.std.proofs.Common.{◌≤◌}
+use Rattle.tu_reader.proofs.Steps.{Turns}
+use Rattle.tu_token.specs.declared.class.Class.TheVariants.{SignPower}
+use Rattle.tu_token.specs.Rules.{◌⨟◌, t, r-primary}
+use Rattle.grammar.specs.Description.{rule}
+use Rattle.grammar.specs.Tree.{n-sequence, n-token}
+use Rattle.tu_reader.specs.Ahead.{weight}
+use Rattle.tu_reader.proofs.expressions.ExprReader.power.Given as goal
+
+abbrev pub invariant-loop-tokens : goal.invariant-loop-tokens
+invariant-loop-tokens g l = Turns (t SignPower ⨟ rule r-primary) (λ x. n-sequence n-token x) l.more l.initial.tokens l.tokens × (weight l.tokens ≤ weight l.initial.tokens)
+
+abbrev pub decreases-loop-tokens : goal.decreases-loop-tokens
+decreases-loop-tokens g l = weight l.tokens

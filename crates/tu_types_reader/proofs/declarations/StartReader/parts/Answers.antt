@@ -1,0 +1,21 @@
+use Rattle.std.proofs.Common.{arith, refl}
+use Rattle.tu_reader.proofs.Steps.{◌▸◌, ◌▹◌, first_stops, no_turns, turns_more, turns_stop, turns_end, exits}
+use Rattle.tu_types_reader.proofs.declarations.StartReader.parts.Goals as goal
+
+pub returns-in_err-first-clause-reads : goal.returns-in_err-first-clause-reads
+returns-in_err-first-clause-reads g c = exits _ _ _ _ c.from_residual.ensures.1 (first_stops (first_stops c.in_err-first.ensures.reads))
+
+pub loop-tokens-init : goal.loop-tokens-init
+loop-tokens-init g c = (no_turns c.new-more.ensures, omega arith)
+
+pub returns-in_err-next-clause-reads : goal.returns-in_err-next-clause-reads
+returns-in_err-next-clause-reads g c = exits _ _ _ _ c.from_residual-in_err-next.ensures.1 (first_stops (c.in_ok-first.ensures.reads ▹ turns_stop refl c.loop-tokens.invariant.0 c.loop-tokens-test.ensures.eats.0 (c.loop-tokens-test.ensures.eats.1 ▹ c.in_err-next.ensures.reads)))
+
+pub loop-tokens-preserved : goal.loop-tokens-preserved
+loop-tokens-preserved g c = (turns_more c.in_ok-push.ensures.ok refl c.loop-tokens.invariant.0 (c.loop-tokens-test.ensures.eats.1 ▸ c.in_ok-next.ensures.reads), omega (arith, c.loop-tokens.invariant.1, c.loop-tokens-test.ensures.less, c.in_ok-next.ensures.less))
+
+pub returns-in_err-expect-clause-reads : goal.returns-in_err-expect-clause-reads
+returns-in_err-expect-clause-reads g c = exits _ _ _ _ c.from_residual-in_err-expect.ensures.1 (((c.in_ok-first.ensures.reads ▸ turns_end refl c.loop-tokens.invariant.0 c.loop-tokens-test.ensures.eats.0 c.loop-tokens-test.ensures.eats.1)) ▹ c.in_err-expect.ensures.reads)
+
+pub returns-clause-reads : goal.returns-clause-reads
+returns-clause-reads g c = rw c.in_ok-first-2.ensures (((c.in_ok-first.ensures.reads ▸ turns_end refl c.loop-tokens.invariant.0 c.loop-tokens-test.ensures.eats.0 c.loop-tokens-test.ensures.eats.1)) ▸ c.in_ok-expect.ensures.reads)

@@ -1,0 +1,16 @@
+use Rattle.std.proofs.Common.{arith, refl}
+use Rattle.tu_reader.proofs.Steps.{no_turns, turns_more, turns_stop, turns_end, exits}
+use Rattle.tu_reader.proofs.Tokens.{nothing_taken}
+use Rattle.tu_types_reader.proofs.types.TypeReader.more_fields.Goals as goal
+
+pub loop-tokens-init : goal.loop-tokens-init
+loop-tokens-init g c = (no_turns c.new-more.ensures, omega arith)
+
+pub returns-in_err-next-clause-reads : goal.returns-in_err-next-clause-reads
+returns-in_err-next-clause-reads g c = exits _ _ _ _ c.from_residual.ensures.1 (turns_stop refl c.loop-tokens.invariant.0 c.loop-tokens-test.ensures c.in_err-next.ensures.reads)
+
+pub loop-tokens-preserved : goal.loop-tokens-preserved
+loop-tokens-preserved g c = (turns_more c.in_ok-push.ensures.ok refl c.loop-tokens.invariant.0 c.in_ok-next.ensures.reads, omega (arith, c.loop-tokens.invariant.1, c.in_ok-next.ensures.less))
+
+pub returns-clause-reads : goal.returns-clause-reads
+returns-clause-reads g c = turns_end refl c.loop-tokens.invariant.0 c.loop-tokens-test.ensures (nothing_taken _ _ refl)

@@ -1,0 +1,12 @@
+use Rattle.std.proofs.Common.{◌≤◌}
+use Rattle.tu_reader.proofs.Steps.{Turns}
+use Rattle.tu_token.specs.Rules.{r-variant}
+use Rattle.grammar.specs.Description.{rule}
+use Rattle.tu_reader.specs.Ahead.{weight}
+use Rattle.tu_types_reader.proofs.types.TypeReader.variants.Given as goal
+
+abbrev pub invariant-loop-tokens : goal.invariant-loop-tokens
+invariant-loop-tokens g l = Turns (rule r-variant) (λ x. x) l.variants l.initial.tokens l.tokens × (weight l.tokens ≤ weight l.initial.tokens)
+
+abbrev pub decreases-loop-tokens : goal.decreases-loop-tokens
+decreases-loop-tokens g l = weight l.tokens

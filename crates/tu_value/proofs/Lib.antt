@@ -1,0 +1,10 @@
+pub mod Tests
+pub mod Numbers
+pub mod Products
+pub mod Outcomes
+pub mod Leaves
+pub mod Sums
+pub mod Multiplied
+pub mod Cells
+pub mod Comparing
+pub mod Growing
