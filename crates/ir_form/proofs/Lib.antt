@@ -1,5 +1,6 @@
 pub mod Each
 pub mod Spends
+mod Steady
 pub mod Sound
 mod Rows
 pub mod Lists

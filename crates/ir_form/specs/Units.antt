@@ -1,5 +1,5 @@
 -- The meaning of a whole unit of region code.
-use Rattle.std.specs.Prelude.{◌≡◌, ℕ, zero, suc, ◌+◌, ◌-◌, ◌*◌, ◌≤◌, ◌⊎◌, List, [], ◌++◌, Option, Some, None, nat_le, if◌then◌else◌, slice_get}
+use Rattle.std.specs.Prelude.{◌≡◌, ◌≢◌, ℕ, zero, suc, ◌+◌, ◌-◌, ◌*◌, ◌≤◌, ◌⊎◌, List, [], ◌++◌, Option, Some, None, nat_le, if◌then◌else◌, slice_get}
 use Rattle.tu_base.specs.Trace.{Trace}
 use Rattle.rv_image.specs.Streams.{Folder, start_world, kept}
 use Rattle.ir_form.specs.declared.unit.Routine.{Routine}
@@ -124,3 +124,8 @@ PaysForRounds u = (place : Place) (input : List ℕ) (folder : Folder) (t s : �
 abbrev pub IsPaidWhereGoing : RegionUnit → Type 0
 IsPaidWhereGoing u = (place : Place) (input : List ℕ) (folder : Folder) (t s : ℕ) →
     let m = meaning u place input folder t s in m.verdict ≡ Going → (t ≤ m.cost) ⊎ (s ≤ m.cost)
+
+-- A run that needs no more than it was given is the same with more other rounds.
+abbrev pub IsSteady : RegionUnit → Type 0
+IsSteady u = (place : Place) (input : List ℕ) (folder : Folder) (t s more : ℕ) →
+    let m = meaning u place input folder t s in m.verdict ≢ Going → meaning u place input folder t (s + more) ≡ m

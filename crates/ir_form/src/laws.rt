@@ -1,7 +1,7 @@
 ghost use Rattle.std.specs.Prelude.{◌≤◌};
 ghost use Rattle.ir_form.specs.declared.unit.Unit.{Unit as RegionUnit};
 ghost use Rattle.ir_form.specs.Lawful.{IsSoundUnit};
-ghost use Rattle.ir_form.specs.Units.{IsPaidWhereGoing, PaysForRounds};
+ghost use Rattle.ir_form.specs.Units.{IsPaidWhereGoing, IsSteady, PaysForRounds};
 ghost use Rattle.ir_form.specs.Valid.{IsValid};
 
 /// The cost of a run is at least the turns and other rounds that have begun.
@@ -19,4 +19,10 @@ pub fn going_is_paid()
 /// A valid unit is lawful but for what its runs do.
 pub fn valid_is_sound()
     ensures { (unit : RegionUnit) → IsValid unit → unit.globals ≤ 4259840 → IsSoundUnit unit }
+{}
+
+/// A run that needs no more than it was given is the same with more other rounds.
+#[tactic(auto, using(crate::proofs::Steady::unit_steady))]
+pub fn run_is_steady()
+    ensures { (unit : RegionUnit) → IsSteady unit }
 {}

@@ -10,7 +10,7 @@ pub mod unit;
 mod validity;
 pub mod weight;
 
-pub use laws::{cost_covers_rounds, going_is_paid, valid_is_sound};
+pub use laws::{cost_covers_rounds, going_is_paid, run_is_steady, valid_is_sound};
 pub use op::{Arm, Exit, Op, Range, Region};
 pub use plain::{Plain, Width};
 pub use unit::{Routine, Unit};

@@ -1,4 +1,5 @@
 pub mod Built
+pub mod Names
 pub mod Refusals
 pub mod Errors
 pub mod Limits

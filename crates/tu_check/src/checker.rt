@@ -67,7 +67,7 @@ pub fn check(alloc: Global, source: &Bytes) -> Result<Checked, CheckError>
     }
     let tokens = lex(alloc, source)?;
     let tree = parse(alloc, &tokens)?;
-    match unbuilt_program(&tree) {
+    match unbuilt_program(alloc, &tree)? {
         Some(line) => Err(CheckError::Refused(Refusal::Types(TypeError::NotBuilt(line)))),
         None => Ok(Checked { tree }),
     }

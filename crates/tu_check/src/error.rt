@@ -1,8 +1,10 @@
 // Why a source is not checked.
 ghost use Rattle.std.specs.Prelude.{◌≡◌};
 ghost use Rattle.tu_check.specs.Errors.{lexical_error, syntax_error};
+ghost use Rattle.tu_check.specs.declared.error.CheckError.TheVariants as check_error;
 
 use thiserror::Error;
+use tu_base::Memory;
 use tu_token::{LexError, ParseError, Refusal};
 
 /// Why a source is not checked.
@@ -35,5 +37,13 @@ impl From<ParseError> for CheckError {
             ParseError::Unexpected { line, .. } => CheckError::Refused(Refusal::Syntax(line)),
             ParseError::Memory => CheckError::Memory,
         }
+    }
+}
+
+impl From<Memory> for CheckError {
+    ghost from_gives = { λ _ given. given ≡ check_error.Memory };
+
+    fn from(_: Memory) -> Self {
+        CheckError::Memory
     }
 }

@@ -3,8 +3,11 @@
 
 mod built;
 mod checker;
+mod declared;
 mod error;
 mod laws;
+mod statements;
+mod values;
 
 pub use built::unbuilt_program;
 pub use checker::{Checked, check};

@@ -1,3 +1,4 @@
+pub mod Generating
 pub mod Ending
 pub mod Faults
 pub mod Places

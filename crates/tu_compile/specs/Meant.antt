@@ -1,4 +1,4 @@
--- What region code, linear code and assigned code mean, as passes speak of it.
+-- What a program, region code, linear code and assigned code mean, as passes speak of it.
 use Rattle.std.specs.Prelude.{◌≢◌, ℕ, ◌+◌, ◌%◌, Bool, ◌==◌, nat_le, ◌&&◌, ◌↔◌, IsTrue, List, length}
 use Rattle.rv_isa.specs.declared.service.FaultKind.{FaultKind}
 use Rattle.rv_isa.specs.declared.service.FaultKind.TheVariants.{Illegal}
@@ -12,7 +12,11 @@ use Rattle.rv_flat.specs.declared.linear.Linear.{Linear}
 use Rattle.rv_flat.specs.Units.{linear_meaning}
 use Rattle.rv_alloc.specs.declared.assigned.Assigned.{Assigned}
 use Rattle.rv_alloc.specs.Assigned.{assigned_meaning}
-use Rattle.tu_agree.specs.Outcomes.{Outcome, Meaning}
+use Rattle.tu_token.specs.Rules.{r-program}
+use Rattle.tu_token.specs.Syntax.{Of}
+use Rattle.tu_meaning.specs.Programs.{meaning as program_meaning}
+use Rattle.tu_agree.specs.Agrees.{over_folder}
+use Rattle.tu_agree.specs.Outcomes.{Outcome, Meaning, program_meant}
 
 abbrev pub place_at : (first_global texts_at : ℕ) → Place
 place_at first_global texts_at = record { globals_at = first_global; texts_at = texts_at }
@@ -34,6 +38,10 @@ given Stuck = Fault Illegal 0
 
 abbrev pub outcome_of : Meant → Outcome
 outcome_of meant = record { trace = meant.trace; verdict = given meant.verdict; cost = meant.cost }
+
+-- what a program means
+abbrev pub tree_meant : Of r-program → Meaning
+tree_meant tree = program_meant (over_folder (program_meaning tree))
 
 -- what a unit of region code means
 abbrev pub region_meant : RegionUnit → Meaning

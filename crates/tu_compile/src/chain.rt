@@ -2,7 +2,7 @@
 
 ghost use Rattle.std.proofs.Common.{lit<};
 ghost use Rattle.std.specs.Prelude.{refl, IfOk};
-ghost use Rattle.tu_agree.specs.Keep.{KeepsInstructions, Turns};
+ghost use Rattle.tu_agree.specs.Keep.{Instructions, KeepsInstructions, Turns};
 ghost use Rattle.tu_agree.specs.Outcomes.{image_meant};
 ghost use Rattle.tu_compile.specs.Meant.{assigned_meant, region_meant};
 ghost use Rattle.tu_compile.specs.Ready.{IsImageOfUnit, IsPlacedCode, IsReadyUnit};
@@ -61,12 +61,40 @@ impl Follows<Middle> for Emit {
     ghost start_fits = { lit< tt };
 }
 
-/// From region code to an image.
-pub type Chain = Both<Middle, Emit>;
+/// From region code to an image, by `Middle` and `Emit`.
+pub struct Chain;
+
+impl Pass for Chain {
+    type Before = Unit;
+
+    type After = Image;
+
+    const SLOW: u64 = 1;
+
+    const START: u64 = 12;
+
+    ghost SLOW = { 1 };
+
+    ghost START = { 12 };
+
+    ghost meant_before = { region_meant };
+
+    ghost meant_after = { image_meant };
+
+    ghost bound = { Instructions };
+
+    ghost ready = { IsReadyUnit };
+
+    ghost gives = { IsImageOfUnit };
+
+    #[tactic(auto, using(crate::proofs::Places::is_image))]
+    fn pass(alloc: Global, before: &Unit) -> Result<Image, Memory> {
+        Both::<Middle, Emit>::pass(alloc, before)
+    }
+}
 
 /// The image of a unit, which does what the unit does. It runs as many instructions as that costs and
 /// 12 more, at most. It fails only for want of memory.
-#[tactic(auto, using(crate::proofs::Places::is_image))]
 pub fn image(alloc: Global, unit: &Unit) -> Result<Image, Memory>
     requires { IsReadyUnit unit.now }
     ensures keeps { let meant = region_meant unit.now in

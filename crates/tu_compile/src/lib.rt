@@ -3,15 +3,19 @@
 
 mod assign;
 mod chain;
+mod compiler;
 mod emit;
 pub mod example;
 mod flat;
+mod generate;
 mod laws;
 
 pub use assign::Assign;
 pub use chain::{Chain, Middle, image};
+pub use compiler::{Compiler, compile};
 pub use emit::Emit;
 pub use flat::Flat;
+pub use generate::Generate;
 pub use laws::{
     fits_where_placed, lawful_assigned_never_faults, lawful_linear_never_faults,
     lawful_unit_never_faults,

@@ -17,7 +17,7 @@ use std::alloc::Global;
 use tu_agree::meaning_is_run;
 use tu_base::{Bytes, Words};
 use tu_check::{CheckError, check, one_answer};
-use tu_first::compile;
+use tu_compile::compile;
 use tu_meaning::program_is_final;
 use tu_outside::{Cabinet, CabinetError, Console, Fetched};
 use tu_token::Refusal;

@@ -1,5 +1,6 @@
 mod commands;
 mod images;
+mod programs;
 mod words;
 
 use crate::{Report, Status, turing};
@@ -82,9 +83,13 @@ fn make_outside(alloc: Global, source: &[u8], plan: Plan) -> Result<Outside, Cab
 
 // A command of words with one blank between two of them.
 fn command(alloc: Global, line: &str, outside: &mut Outside) -> Result<Report, Memory> {
+    command_of_bytes(alloc, line.as_bytes(), outside)
+}
+
+fn command_of_bytes(alloc: Global, line: &[u8], outside: &mut Outside) -> Result<Report, Memory> {
     let mut words = Words::make(alloc);
-    for word in line.split(' ') {
-        words.add(Bytes::from_slice(alloc, word.as_bytes())?)?;
+    for word in line.split(|byte| *byte == b' ') {
+        words.add(Bytes::from_slice(alloc, word)?)?;
     }
     Ok(turing(
         alloc,
@@ -219,7 +224,7 @@ const UNEXPECTED: Status = Status::Refused(Refusal::Syntax(1));
 const UNEXPECTED_AT_2: Status = Status::Refused(Refusal::Syntax(2));
 
 // A source, and why it is refused.
-const REFUSED: [(&[u8], Status, &str); 17] = [
+const REFUSED: [(&[u8], Status, &str); 15] = [
     (b"put 2147483648", BAD_NUMBER, "line 1: Lexical BadNumber"),
     (b"put 1put 2", BAD_NUMBER, "line 1: Lexical BadNumber"),
     (b"put \"a", OPEN_TEXT, "line 1: Lexical OpenText"),
@@ -245,8 +250,6 @@ const REFUSED: [(&[u8], Status, &str); 17] = [
     (b"module M end M", NOT_BUILT, "line 1: Types NotBuilt"),
     (b"put1", NOT_BUILT, "line 1: Types NotBuilt"),
     (b"put -1", NOT_BUILT, "line 1: Types NotBuilt"),
-    (b"put 1 ..", NOT_BUILT, "line 1: Types NotBuilt"),
-    (b"put 1\nput 1, 2", NOT_BUILT_AT_2, "line 2: Types NotBuilt"),
     (
         b"put 1 *\n(2 div 3)\nput true",
         NOT_BUILT_AT_2,
@@ -314,7 +317,7 @@ fn the_largest_source(rt: HostRuntime) -> Result<(), Fail> {
 }
 
 // A call of a device that fails, or a reserve that is short, and then the status, output and note.
-const FAILURES: [(Plan, Status, &[u8], &str); 8] = [
+const FAILURES: [(Plan, Status, &[u8], &str); 9] = [
     (
         Plan {
             console: 1,
@@ -329,6 +332,15 @@ const FAILURES: [(Plan, Status, &[u8], &str); 8] = [
             console: 2,
             ..AMPLE
         },
+        Status::ConsoleFault,
+        b"7",
+        "console failed",
+    ),
+    (
+        Plan {
+            console: 3,
+            ..AMPLE
+        },
         OVERFLOW,
         b"7\n",
         "line 1: Overflow",
@@ -336,7 +348,7 @@ const FAILURES: [(Plan, Status, &[u8], &str); 8] = [
     (
         Plan { events: 1, ..AMPLE },
         Status::ConsoleFault,
-        b"",
+        b"7",
         "console failed",
     ),
     (

@@ -131,7 +131,7 @@ fn has_image(alloc: Global, outside: &Outside, bytes: Option<&[u8]>) -> Result<b
 }
 
 // Whether a source is built to an image that is kept, and that then runs so.
-fn is_built(alloc: Global, source: &[u8], answer: Answer) -> Result<bool, CabinetError> {
+pub fn is_built(alloc: Global, source: &[u8], answer: Answer) -> Result<bool, CabinetError> {
     let mut outside = make_outside(alloc, source, AMPLE)?;
     let built = command(alloc, "build a.t a.img", &mut outside)?;
     let ended = built.status == Status::Ended && built.instructions == 0;

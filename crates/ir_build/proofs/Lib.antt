@@ -1,0 +1,16 @@
+pub mod Words
+pub mod States
+pub mod Values
+pub mod Forms
+pub mod Pieces
+pub mod Conditions
+pub mod Tokens
+pub mod Fits
+pub mod Regions
+pub mod Operations
+pub mod Makes
+pub mod Entries
+pub mod Digits
+pub mod Operators
+pub mod Operands
+pub mod Compares

@@ -1,0 +1,68 @@
+use Rattle.std.proofs.Common.{◌≡◌, ◌+◌, drop, ap, sym, subst, ◌∙◌, rules, arith}
+use Rattle.std.specs.Prelude.{IfOk}
+use Rattle.std.proofs.lemmas.Grind.{common_steps}
+use Rattle.std.proofs.lemmas.Result.{on_ok_weaker}
+use Rattle.tu_expr.specs.declared.expr.Multiplication.TheVariants.{Times}
+use Rattle.ir_build.specs.Code.{times, code_expr, code_terms, code_factors, code_prefix, code_primary}
+use Rattle.ir_build.specs.Levels.{made}
+use Rattle.ir_build.specs.Tokens.{tokens_in}
+use Rattle.ir_build.proofs.Operands.{terms, factors, terms_at, tokens_at, factors_at, factor_tokens_at, path_alone, brackets_alone}
+use Rattle.ir_build.proofs.expressions.+code.Goals as goal
+
+pub factor-variable-requires : goal.factor-variable-requires
+factor-variable-requires t c =
+    let path = c.in-Path.path in
+    let is = path_alone c.in-Some.primary.now _ c.primary.inside.form path c.primary.view_is c.in-Path.is in
+    omega (arith, c.requires, c.in-Some.ensures.is.tokens, ap tokens_in is)
+
+pub factor-returns-in-Path-clause-made : goal.factor-returns-in-Path-clause-made
+factor-returns-in-Path-clause-made t c =
+    let is = path_alone c.in-Some.primary.now _ c.primary.inside.form c.in-Path.path c.primary.view_is c.in-Path.is in
+    let same = ap (λ z. code_primary c.args.fixed c.args.names.now c.args.line z c.args.code.now) is ∙ sym (c.in-Some.ensures.is.value c.args.fixed c.args.names.now c.args.line c.args.code.now) in
+    subst (λ z. IfOk c.variable.result (λ value. made c.variable.new.code value ≡ z)) same c.variable.ensures.made
+
+pub factor-returns-in-Path-clause-next : goal.factor-returns-in-Path-clause-next
+factor-returns-in-Path-clause-next t c =
+    let is = path_alone c.in-Some.primary.now _ c.primary.inside.form c.in-Path.path c.primary.view_is c.in-Path.is in
+    on_ok_weaker c.variable.result (λ h. omega (arith, h, c.in-Some.ensures.is.tokens, ap tokens_in is)) c.variable.ensures.next
+
+pub factor-returns-in-Brackets-clause-made : goal.factor-returns-in-Brackets-clause-made
+factor-returns-in-Brackets-clause-made t c =
+    let is = brackets_alone c.in-Some.primary.now _ c.primary.inside.form c.in-Brackets.inner c.primary.view_is c.in-Brackets.is in
+    let same = ap (λ z. code_expr c.args.fixed c.args.names.now c.args.line z c.args.code.now) c.get.ensures
+    ∙ (ap (λ z. code_primary c.args.fixed c.args.names.now c.args.line z c.args.code.now) is ∙ sym (c.in-Some.ensures.is.value c.args.fixed c.args.names.now c.args.line c.args.code.now)) in
+    subst (λ z. IfOk c.expression.result (λ value. made c.expression.new.code value ≡ z)) same c.expression.ensures.made
+
+pub factors-loop-operator-preserved : goal.factors-loop-operator-preserved
+factors-loop-operator-preserved t c =
+    let k = c.args.fixed in
+    let names = c.args.names.now in
+    let line = c.args.line in
+    let xs = c.as_slice-operator-items.result.now in
+    let i = c.loop-operator.operator-index in
+    let x = c.loop-operator-item.result in
+    let so_far = made c.loop-operator.code c.loop-operator.value in
+    let same : x.0 ≡ Times = first_of (search rules, grind (arith, common_steps)) in
+    let operand : made c.factor-in-loop-operator.new.code c.in_ok-right.right ≡ code_prefix k names line x.1 c.loop-operator.code = c.in_ok-right.ensures.made in
+    let product : made c.product.new.code c.in_ok-value-2.value ≡ times k names line so_far (made c.factor-in-loop-operator.new.code c.in_ok-right.right) =
+    (λ j. made (c.in_ok-value-2.ensures.appended j) (c.in_ok-value-2.ensures.value j)) in
+    record {
+      rest = ap (λ v. code_factors k names line v (factors (drop (i + 1) xs))) (product ∙ ap (times k names line so_far) operand)
+          ∙ (sym (factors_at k names line so_far xs i x c.loop-operator-test.true c.loop-operator-item.is same) ∙ c.loop-operator.invariant.rest);
+      next = omega (arith, c.loop-operator.invariant.next, factor_tokens_at xs i x c.loop-operator-test.true c.loop-operator-item.is, c.in_ok-right.ensures.next, ap (λ z. z.next) c.in_ok-value-2.ensures.appended);
+    }
+
+pub terms-loop-sign-preserved : goal.terms-loop-sign-preserved
+terms-loop-sign-preserved t c =
+    let k = c.args.fixed in
+    let names = c.args.names.now in
+    let line = c.args.line in
+    let xs = c.as_slice-sign-items.result.now in
+    let i = c.loop-sign.sign-index in
+    let x = c.loop-sign-item.result in
+    let so_far = made c.loop-sign.code c.loop-sign.value in
+    record {
+      rest = ap (λ v. code_terms k names line v (terms (drop (i + 1) xs))) c.in_ok-value-2.ensures.made
+          ∙ (sym (terms_at k names line so_far xs i x c.loop-sign-test.true c.loop-sign-item.is) ∙ c.loop-sign.invariant.rest);
+      next = omega (arith, c.loop-sign.invariant.next, tokens_at xs i x c.loop-sign-test.true c.loop-sign-item.is, c.in_ok-value-2.ensures.next);
+    }

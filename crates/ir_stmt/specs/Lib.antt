@@ -1,0 +1,5 @@
+pub mod Code
+pub mod Built
+pub mod Leaves
+pub mod Unit
+pub mod Made

@@ -1,0 +1,45 @@
+// The pass that makes region code of a program.
+
+ghost use Rattle.std.specs.Prelude.{◌≡◌};
+ghost use Rattle.tu_agree.specs.Keep.{Turns};
+ghost use Rattle.tu_compile.specs.Meant.{region_meant, tree_meant};
+ghost use Rattle.tu_compile.specs.Ready.{IsReadyUnit};
+
+use ir_form::Unit;
+use std::alloc::Global;
+use tu_agree::Pass;
+use tu_base::Memory;
+use tu_check::Checked;
+
+/// From a checked program to region code, which costs at most 120 for each of the program's units.
+pub struct Generate;
+
+impl Pass for Generate {
+    type Before = Checked;
+
+    type After = Unit;
+
+    const SLOW: u64 = 120;
+
+    const START: u64 = 200;
+
+    ghost SLOW = { 120 };
+
+    ghost START = { 200 };
+
+    ghost meant_before = { tree_meant };
+
+    ghost meant_after = { region_meant };
+
+    ghost bound = { Turns };
+
+    ghost ready = { λ tree. Unit {0} };
+
+    ghost gives = { λ tree unit. IsReadyUnit unit };
+
+    #[tactic(auto, using(crate::proofs::Generating::keeps_program, crate::proofs::Generating::is_ready))]
+    fn pass(alloc: Global, before: &Checked) -> Result<Unit, Memory> {
+        ir_form::laws::going_is_paid();
+        ir_stmt::unit(alloc, before)
+    }
+}

@@ -1,4 +1,0 @@
-pub mod Emitted
-pub mod Outcome
-pub mod Laws
-pub mod Runs
