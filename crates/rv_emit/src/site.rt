@@ -52,7 +52,8 @@ impl Labels {
 
     // Passes an instruction at a place. The first place of a label counts.
     pub fn pass(&mut self, instruction: &Instruction, at: u32) -> Result<(), Memory>
-        ensures { OnOk result (Passes self.old self.new instruction.now at) }
+        ensures passes { OnOk result (Passes self.old self.new instruction.now at) }
+        ensures end { self.new.end ≡ self.old.end }
     {
         if let Instruction::Label { label, .. } = instruction {
             if !self.places.contains_key(label) {
