@@ -1,9 +1,6 @@
 -- Conditions.
-use Rattle.std.proofs.Common.{◌≡◌, ℕ, ◌+◌, ◌<◌, ◌≤◌, Bool, true, false, List, [], ◌++◌, refl, sym, ◌∙◌, ap, subst, arith, append_assoc, Option, Some, None, map}
+use Rattle.std.proofs.Common.{◌≡◌, ℕ, ◌+◌, ◌≤◌, Bool, true, false, List, [], ◌++◌, refl, sym, ◌∙◌, ap, subst, arith, append_assoc, Option, Some, None, map}
 use Rattle.std.specs.Prelude.{◌&&◌, is_some, ℤ}
-use Rattle.tu_base.specs.Trace.{Trace}
-use Rattle.rv_image.specs.Streams.{traced}
-use Rattle.ir_form.specs.declared.op.Op.{Op}
 use Rattle.ir_form.specs.Plain.{Calls}
 use Rattle.ir_form.specs.Meaning.{run_list}
 use Rattle.ir_form.specs.State.{State as CodeState, How, Run, on_how}
@@ -14,28 +11,20 @@ use Rattle.tu_token.specs.Syntax.{Of}
 use Rattle.tu_expr.specs.Forms.{NoMore, More, Expr, Or, And, Not, Compare, Related}
 use Rattle.tu_meaning.specs.Operators.{relate}
 use Rattle.tu_meaning.specs.Interpreter.{answered, evaluate_compare, evaluate_sum, condition, truth_of}
-use Rattle.tu_meaning.specs.Steps.{State, Step, give, pay, ◌>>=◌, ◌>>◌}
+use Rattle.tu_meaning.specs.Steps.{Step, give, pay, ◌>>=◌, ◌>>◌}
 use Rattle.tu_meaning.specs.Store.{Store, by_copying}
 use Rattle.tu_meaning.specs.Values.{Value, Int, Truth, Variable}
 use Rattle.tu_value.specs.Comparisons.{Comparison, comparison_of, compares, compared}
 use Rattle.tu_value.specs.Words.{word_of_int}
 use Rattle.tu_value.proofs.Comparing.{relations_hold}
-use Rattle.ir_build.specs.Keeps.{Named, Site, Holds, Keeps, Tells}
-use Rattle.ir_build.specs.Code.{Made, Tested, tested, code_sum, test_expr, test_compare}
+use Rattle.ir_build.specs.Keeps.{Named, Site, Keeps, Tells}
+use Rattle.ir_build.specs.Code.{Made, tested, code_sum, test_expr, test_compare}
+use Rattle.ir_build.specs.Does.{Does, TestDoes}
+use Rattle.ir_build.specs.Laws.{ExpressionsDo, ConditionsDo}
 use Rattle.ir_build.specs.Built.{is_built_sum, is_tested, is_tested_compare}
 use Rattle.ir_build.proofs.Words.{Passes, passes_next, keeps_flow, keeps_is, keeps_more, keeps_paid, keeps_give, keeps_given, keeps_grouped}
-use Rattle.ir_build.proofs.Values.{Does}
-use Rattle.ir_build.proofs.Forms.{both, sum_built}
+use Rattle.ir_build.proofs.Forms.{both, expr_does, sum_built}
 use Rattle.ir_build.proofs.Pieces.{operators}
-
--- Code that does a step which gives a truth value, in its place behind the code so far.
-pub record TestDoes (x : Site) (calls : Calls) (m : Step Store Bool) (code : Code) (t : Tested) : Type 0 where
-  pub ops : List Op
-  pub is : t.code.ops ≡ code.ops ++ ops
-  pub more : code.next ≤ t.code.next
-  pub first_below : t.left < t.code.next
-  pub second_below : t.right < t.code.next
-  pub keeps : (left : ℕ) (s : State Store) (st : CodeState) (c : ℕ) (tr : Trace) (b : ℕ) → Holds x left s st c → st.world ≡ traced x.world tr → c ≤ b → Keeps x (Tells x left t.comparison t.left t.right code.next st.env) tr b (m s) (run_list x.setting calls ops st c)
 
 abbrev as_it_is : How → CodeState → ℕ → Run
 as_it_is how st c = record { how = how; state = st; cost = c }
@@ -109,3 +98,9 @@ module _ (x : Site) (calls : Calls) (depth line : ℕ) where
   condition_does (Expr m (Or m1 (And m2 e (More z zs)) NoMore) NoMore) b code low = absurd (let q : false ≡ true = b in grind (arith, q))
   condition_does (Expr m (Or m1 e (More z zs)) NoMore) b code low = absurd (let q : false ≡ true = b in grind (arith, q))
   condition_does (Expr m e (More z zs)) b code low = absurd (let q : false ≡ true = b in grind (arith, q))
+
+pub expressions_do : ExpressionsDo
+expressions_do x calls depth line e b code low = expr_does x calls depth line (operators x calls line) e b code low
+
+pub conditions_do : ConditionsDo
+conditions_do x calls depth line e b code low = condition_does x calls depth line e b code low

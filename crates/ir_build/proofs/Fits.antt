@@ -12,6 +12,7 @@ use Rattle.ir_form.specs.Tests.{contains, fits, fits_list}
 use Rattle.ir_form.proofs.Sights.{contains-append}
 use Rattle.ir_code.specs.declared.code.Code.{Code}
 use Rattle.tu_value.specs.Pieces.{with_piece}
+use Rattle.ir_build.specs.Behind.{behind, Seen, IsFit, AreFrom, Grows}
 
 pub is_and : {a b : Bool} → a ≡ true → b ≡ true → (a && b) ≡ true
 is_and {a} {b} e f = ap (λ z. z && b) e ∙ f
@@ -25,11 +26,6 @@ kept_back xs ys v e = contains-append xs ys v ∙ or_true (contains xs v) e
     or_true : (b : Bool) {c : Bool} → c ≡ true → (b || c) ≡ true
     or_true true e = refl
     or_true false e = e
-
--- the numbers from n on, in order
-abbrev pub AreFrom : ℕ → List ℕ → Type 0
-AreFrom n [] = Unit {0}
-AreFrom n (x ∷ xs) = (x ≡ n) × AreFrom (n + 1) xs
 
 from_append : (n m : ℕ) (xs ys : List ℕ) → AreFrom n xs → n + length xs ≡ m → AreFrom m ys → AreFrom n (xs ++ ys)
 from_append n m [] ys h e g = subst (λ z. AreFrom z ys) (let q : m ≡ n = omega (arith, e) in q) g
@@ -52,22 +48,6 @@ with_both s xs ys = ap (λ vs. record s { values = vs }) (append_assoc s.values 
 
 pub with_none : (s : Scope) → with s [] ≡ s
 with_none s = ap (λ vs. record s { values = vs }) (append-nil s.values)
-
--- a value is seen behind code
-abbrev pub Seen : Scope → Code → ℕ → Type 0
-Seen s code v = contains (s.values ++ given_list code.ops) v ≡ true
-
--- the values that code defines are in order, up to the next one
-pub record IsTidy (n : ℕ) (code : Code) : Type 0 where
-  pub values : AreFrom n (defined_list code.ops)
-  pub last : n + length (defined_list code.ops) ≡ code.next
-
--- Code that was made behind other code: how much it weighs more and how many values it defines more, at most.
-pub record Grows (most : ℕ) (code made : Code) : Type 0 where
-  pub few : made.next ≤ code.next + most
-  pub light : weight_list made.ops ≤ weight_list code.ops + most
-  pub tidy : (n : ℕ) → IsTidy n code → IsTidy n made
-  pub kept : (s : Scope) (v : ℕ) → Seen s code v → Seen s made v
 
 pub same_grows : (most : ℕ) (code : Code) → Grows most code code
 same_grows most code = record { few = omega arith; light = omega arith; tidy = λ n t. t; kept = λ s v h. h }
@@ -108,15 +88,7 @@ behind_seen count s code ops v h = subst (λ z. contains (s.values ++ z) v ≡ t
 pub record FitIn (u : RegionUnit) (r : Routine) (s : Scope) (ops : List Op) : Type 0 where
   pub is : fits_list u r s ops ≡ true
 
--- the scope behind the code
-abbrev pub behind : Scope → Code → Scope
-behind s code = with s (given_list code.ops)
-
 module _ (u : RegionUnit) (r : Routine) where
-  -- the operations so far fit where they lie
-  abbrev pub IsFit : Scope → Code → Type 0
-  IsFit s code = fits_list u r s code.ops ≡ true
-
   fits_append : (s : Scope) (xs ys : List Op) → fits_list u r s (xs ++ ys) ≡ (fits_list u r s xs && fits_list u r (with s (given_list xs)) ys)
   fits_append s [] ys = ap (λ z. fits_list u r z ys) (sym (with_none s))
   fits_append s (x ∷ xs) ys =
@@ -127,5 +99,5 @@ module _ (u : RegionUnit) (r : Routine) where
       and_in true b c = refl
       and_in false b c = refl
 
-  pub behind_fits : (count : ℕ) (s : Scope) (code : Code) (ops : List Op) → IsFit s code → FitIn u r (behind s code) ops → IsFit s (with_piece code ops count)
+  pub behind_fits : (count : ℕ) (s : Scope) (code : Code) (ops : List Op) → IsFit u r s code → FitIn u r (behind s code) ops → IsFit u r s (with_piece code ops count)
   behind_fits count s code ops h e = fits_append s code.ops ops ∙ is_and h e.is

@@ -6,32 +6,32 @@ use Rattle.grammar.specs.Tree.{Mark, n-rule, n-right, height}
 use Rattle.tu_base.specs.declared.kind.Kind.TheVariants as kind
 use Rattle.tu_base.specs.Trace.{Trace}
 use Rattle.rv_image.specs.Streams.{traced}
+use Rattle.ir_form.specs.Meaning.{run_list}
 use Rattle.ir_form.specs.Plain.{Calls}
 use Rattle.ir_form.specs.State.{State as CodeState, Run}
 use Rattle.ir_code.specs.declared.code.Code.{Code}
-use Rattle.ir_code.proofs.Steps.{set_same, set_below}
 use Rattle.tu_token.specs.LexFaults.{value_after}
 use Rattle.tu_token.specs.Rules.{r-expr, r-or, r-and, r-not, r-compare, r-sum, r-term, r-prefix, r-power, r-primary, many}
 use Rattle.tu_token.specs.Syntax.{Of}
 use Rattle.tu_expr.specs.Parts.{Part, text_of}
 use Rattle.tu_expr.specs.Views.{signed, multiplied}
 use Rattle.tu_expr.specs.Forms.{NoMore, More, Expr, Or, And, Not, Compare, Sum, Term, Prefix, Power, Added, Subtracted, Multiplied, Divided, Reduced, NumberValue, TrueValue, FalseValue, PathValue, Brackets, TextValue, NilValue, Path}
-use Rattle.tu_meaning.specs.Operators.{plus, minus, times}
+use Rattle.tu_meaning.specs.Operators.{plus, minus, times, is_int}
 use Rattle.tu_meaning.specs.Interpreter.{answered, read, evaluate, evaluate_or, evaluate_and, evaluate_not, evaluate_compare, evaluate_sum, add, evaluate_term, multiply, evaluate_prefix, evaluate_power, evaluate_primary}
 use Rattle.tu_meaning.specs.Steps.{State, Step, give, pay, look, ◌>>=◌, ◌>>◌}
 use Rattle.tu_meaning.specs.Store.{Store, by_copying, fetch_root}
 use Rattle.tu_meaning.specs.Values.{Value, Unset, Int, Truth, Variable, variable_of, Place, place_of}
-use Rattle.tu_value.specs.Meets.{Meets}
-use Rattle.tu_value.specs.Meets.{fetched}
-use Rattle.tu_value.proofs.Leaves.{fetch_meets}
+use Rattle.tu_value.specs.Meets.{GivesValue, Meets, fetched}
+use Rattle.tu_value.proofs.Leaves.{fetch_meets, literal_meets}
 use Rattle.tu_value.specs.Words.{word_of, IsSmall}
 use Rattle.tu_value.specs.Pieces.{literal_code, fetch_code, sum_code, difference_code, product_code, more_code, less_code}
 use Rattle.ir_build.specs.Keeps.{factor, Named, Site, word_at, IsStored, Holds, Post, Keeps, Gives}
 use Rattle.ir_build.specs.Code.{plus as code_plus, minus as code_minus, fetched as code_fetched, Made, with_value, number_of, literal_of, code_expr, code_or, code_and, code_not, code_compare, code_sum, code_terms, code_term, code_factors, code_prefix, code_power, code_primary}
 use Rattle.ir_build.specs.Built.{is_built, is_built_or, is_built_and, is_built_not, is_built_compare, is_built_sum, are_built_terms, is_built_term, are_built_factors, is_built_prefix, is_built_power, is_built_primary}
+use Rattle.ir_build.specs.Does.{Does}
 use Rattle.ir_build.proofs.Words.{keeps_paid, keeps_give, keeps_raise, keeps_look, keeps_given, keeps_grouped}
-use Rattle.ir_build.proofs.States.{holds_still, fixed_above, Found, find, lies_of}
-use Rattle.ir_build.proofs.Values.{after_piece, world_of, Operator, Shortcut, IsNumber, Does, DoesFrom, does_then, does_no_more, does_operator, does_shortcut}
+use Rattle.ir_build.proofs.States.{fixed_above, Found, find, lies_of}
+use Rattle.ir_build.proofs.Values.{after_piece, world_of, Operator, Shortcut, IsNumber, DoesFrom, does_then, does_no_more, does_operator, does_shortcut}
 
 pub both : (a b : Bool) → (a && b) ≡ true → (a ≡ true) × (b ≡ true)
 both true b e = (refl, e)
@@ -116,15 +116,12 @@ module _ (x : Site) (calls : Calls) (depth line : ℕ) where
         is = refl;
         more = omega arith;
         value = omega arith;
-        keeps = λ left s st c tr b h w le. keeps_paid 1 s (give (Int (pos n))) _ (keeps_give (Int (pos n)) s _ (record {
-          goes = refl;
-          holds = holds_still _ (λ j lt. set_below st.env code.next _ j (omega arith)) (omega arith) h;
-          int = pos n;
-          is = refl;
-          small = e;
-          result = set_same st.env code.next (2147483648 + number_of (text_of digits)) ∙ ap (λ z. Some (2147483648 + z)) q.0;
-          kept = λ j lt. set_below st.env code.next _ j lt;
-        }) w (omega arith));
+        keeps = λ left s st c tr b h w le.
+            let number = number_of (text_of digits) in
+            let r = run_list x.setting calls (literal_code number code.next) st c in
+            let g : GivesValue code.next code.next 5 (Int (pos number)) st c r = literal_meets x.setting calls number line code.next st c (let i = q.0 in let l = q.1 in omega arith) in
+            keeps_paid 1 s (give (Int (pos n))) _ (subst (λ y. Keeps x (Gives x left code.next code.next st.env) tr (b + factor * 1) (give (Int (pos y)) s) r) q.0
+            (keeps_give (Int (pos number)) s r (after_piece (pos number) s st c 5 r low (omega arith) h (λ j lt. refl) (subst (λ y. is_int (pos y) ≡ true) (sym q.0) e) g) (world_of g.only ∙ w) (let z = g.costs.bound in omega arith)));
       }
 
   variable_does : (m mp : Mark) (root : _) (f : Found (variable_of root) x.names) (code : Code) → x.low ≤ code.next → Does x calls (evaluate_primary Store by_copying t depth [] line (PathValue m (Path mp root NoMore))) code (with_value code (fetch_code x.fixed line f.it.at))

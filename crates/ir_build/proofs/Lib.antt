@@ -14,3 +14,4 @@ pub mod Digits
 pub mod Operators
 pub mod Operands
 pub mod Compares
+pub mod Adds

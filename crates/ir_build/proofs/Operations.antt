@@ -18,7 +18,8 @@ use Rattle.ir_code.specs.Pieces.{constant, compute, load, raise_unless}
 use Rattle.ir_code.specs.declared.code.Code.{Code}
 use Rattle.tu_value.specs.Pieces.{with_piece, literal_code, fetch_code, store_code, sum_code, difference_code, product_code, more_code, less_code}
 use Rattle.tu_value.specs.declared.pieces.Fixed.{Fixed}
-use Rattle.ir_build.proofs.Fits.{is_and, kept_front, kept_back, with_none, AreFrom, Grows, behind_grows, FitIn}
+use Rattle.ir_build.specs.Behind.{SeesAll, AreFrom, Grows}
+use Rattle.ir_build.proofs.Fits.{is_and, kept_front, kept_back, with_none, behind_grows, FitIn}
 use Rattle.ir_build.proofs.Regions.{raise_fits}
 
 pub here : (v : ℕ) (xs : List ℕ) → contains (v ∷ xs) v ≡ true
@@ -26,11 +27,6 @@ here v xs = ap (λ z. z || contains xs v) ((Decides-eqb v v).1 refl)
 
 pub there : (x v : ℕ) (xs : List ℕ) → contains xs v ≡ true → contains (x ∷ xs) v ≡ true
 there x v xs h = kept_back (x ∷ []) xs v h
-
--- a scope sees some values
-abbrev pub SeesAll : Scope → List ℕ → Type 0
-SeesAll s [] = Unit {0}
-SeesAll s (v ∷ vs) = (contains s.values v ≡ true) × SeesAll s vs
 
 pub sees_more : (s : Scope) (given vs : List ℕ) → SeesAll s vs → SeesAll (with s given) vs
 sees_more s given [] h = tt

@@ -20,6 +20,7 @@ use Rattle.tu_value.specs.Words.{word_of_int}
 use Rattle.tu_value.specs.Meets.{OnlyFrom, GivesValue, Meets, HasFixed}
 use Rattle.ir_build.specs.Keeps.{factor, Site, Holds, Post, Keeps, Gives}
 use Rattle.ir_build.specs.Code.{Made, with_values}
+use Rattle.ir_build.specs.Does.{Does}
 use Rattle.ir_build.proofs.Words.{passes_next, keeps_flow, keeps_is, keeps_more, keeps_paid, keeps_give, keeps_raise}
 use Rattle.ir_build.proofs.States.{holds_only, fixed_above}
 
@@ -65,14 +66,6 @@ pub record Shortcut (x : Site) (line : ℕ) (calls : Calls) (op : ℤ → ℤ �
 pub record IsNumber (m : Step Store Value) (number : ℕ) : Type 1 where
   pub small : number ≤ 2147483647
   pub goes_on : {x : Site} {B : Type 0} {Q : Post B} {tr : Trace} {b : ℕ} (k : Value → Step Store B) (s : State Store) (f : Run) → Keeps x Q tr (b + factor * 1) (k (Int (pos number)) s) f → Keeps x Q tr b ((m >>= k) s) f
-
--- Code that does a step which gives an int, in its place behind the code so far.
-pub record Does (x : Site) (calls : Calls) (m : Step Store Value) (code : Code) (made : Made) : Type 0 where
-  pub ops : List Op
-  pub is : made.code.ops ≡ code.ops ++ ops
-  pub more : code.next ≤ made.code.next
-  pub value : made.value < made.code.next
-  pub keeps : (left : ℕ) (s : State Store) (st : CodeState) (c : ℕ) (tr : Trace) (b : ℕ) → Holds x left s st c → st.world ≡ traced x.world tr → c ≤ b → Keeps x (Gives x left made.value code.next st.env) tr b (m s) (run_list x.setting calls ops st c)
 
 -- Code that does a step which begins with an int, behind the code that gives this.
 pub record DoesFrom (x : Site) (calls : Calls) (base : ℕ) (m : Value → Step Store Value) (from made : Made) : Type 0 where

@@ -1,5 +1,5 @@
 -- Region code beside a step of the meaning: what they have in common, and what the code costs.
-use Rattle.std.specs.Prelude.{◌≡◌, ℕ, ◌+◌, ◌*◌, ◌≤◌, ◌<◌, true, Bool, List, [], ◌∷◌, ◌++◌, Some, ℤ}
+use Rattle.std.specs.Prelude.{◌≡◌, ℕ, ◌+◌, ◌*◌, ◌≤◌, ◌<◌, true, Bool, List, [], ◌∷◌, ◌++◌, map, Some, ℤ}
 use Rattle.tu_base.specs.Kind.{kind_number}
 use Rattle.tu_base.specs.Trace.{Trace}
 use Rattle.rv_image.specs.Streams.{World, traced}
@@ -25,6 +25,9 @@ pub record Named : Type 0 where
   pub name : Variable
   pub word : ℕ
   pub at : ℕ
+
+abbrev pub variables_of : List Named → List Variable
+variables_of names = map (λ (n : Named). n.name) names
 
 -- Where code stands: its setting, the values that its routine begins with, the variables that are declared, a number above those of all these
 -- values, the world at the start of the program, and the bounds on turns and other rounds.

@@ -5,3 +5,6 @@ pub mod Names
 pub mod Tokens
 pub mod Levels
 pub mod Compared
+pub mod Behind
+pub mod Does
+pub mod Laws

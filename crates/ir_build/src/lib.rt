@@ -3,9 +3,11 @@
 
 mod comparisons;
 mod expressions;
+mod laws;
 mod levels;
 mod names;
 
 pub use comparisons::{Tested, condition, where_tested};
 pub use expressions::expression;
+pub use laws::{expressions_add, expressions_do, expressions_fit};
 pub use names::Names;

@@ -14,12 +14,12 @@ use Rattle.ir_code.proofs.Running.{runs_in_order, once_runs, repeat_runs}
 use Rattle.tu_meaning.specs.Interpreter.{Flow, Next, Exits, and_then, unless_left, rounds}
 use Rattle.tu_meaning.specs.Steps.{State, Step, give, pay, stop, turned, ◌>>=◌, ◌>>◌}
 use Rattle.tu_meaning.specs.Store.{Store}
+use Rattle.ir_build.specs.Does.{TestDoes}
 use Rattle.ir_build.specs.Keeps.{Named, Site, AllLie, Holds, Keeps, Tells}
 use Rattle.ir_build.specs.Code.{Tested, where_tested}
 use Rattle.ir_build.proofs.Words.{Passes, passes_next, keeps_flow, keeps_then, keeps_is, keeps_more, keeps_paid, keeps_give, keeps_stop, keeps_turn}
 use Rattle.ir_build.proofs.States.{holds_still}
 use Rattle.ir_build.proofs.Values.{then_none}
-use Rattle.ir_build.proofs.Conditions.{TestDoes}
 use Rattle.ir_stmt.specs.Leaves.{Leaves}
 use Rattle.ir_stmt.specs.Code.{inside, enclosed, with_arm}
 use Rattle.ir_stmt.proofs.Simple.{StatementDoes, tells_next, where_runs}

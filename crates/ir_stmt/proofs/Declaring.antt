@@ -13,12 +13,12 @@ use Rattle.tu_meaning.specs.Values.{Variable}
 use Rattle.tu_value.specs.declared.pieces.Fixed.{Fixed}
 use Rattle.ir_build.specs.Built.{is_declared}
 use Rattle.ir_build.specs.Code.{Made, named, code_expr}
-use Rattle.ir_build.specs.Keeps.{Named}
+use Rattle.ir_build.specs.Keeps.{Named, variables_of}
 use Rattle.ir_build.specs.Tokens.{tokens_in}
 use Rattle.ir_build.proofs.Operands.{from_place}
 use Rattle.ir_stmt.specs.Built.{are_new}
 use Rattle.ir_stmt.specs.Code.{Declared, declare_all, started, store_all, stored}
-use Rattle.ir_stmt.specs.Made.{declared, names_only}
+use Rattle.ir_stmt.specs.Made.{declared}
 
 abbrev pub listed : List Leaf → Part (many further_name)
 listed xs = repeated further_name named_view xs
@@ -33,10 +33,10 @@ pub listed_tokens_at : (xs : List Leaf) (i : ℕ) (x : Leaf) → i < length xs �
 listed_tokens_at xs i x h is = let e = ap (λ s. tokens_in (listed s)) (from_place xs i x h is) in omega (arith, e)
 
 -- what is not declared has no value
-pub not_named : (x : Variable) (names : List Named) → is_declared (names_only names) x ≡ false → named x names ≡ None
+pub not_named : (x : Variable) (names : List Named) → is_declared (variables_of names) x ≡ false → named x names ≡ None
 not_named x [] h = refl
 not_named x (n ∷ names) h = by (bytes_eq x n.name) h (not_named x names) where
-  by : (b : Bool) → (b || is_declared (names_only names) x) ≡ false → (is_declared (names_only names) x ≡ false → named x names ≡ None) → (if b then Some n else named x names) ≡ None
+  by : (b : Bool) → (b || is_declared (variables_of names) x) ≡ false → (is_declared (variables_of names) x ≡ false → named x names ≡ None) → (if b then Some n else named x names) ≡ None
   by true h rest = absurd (cc)
   by false h rest = rest h
 
@@ -49,9 +49,9 @@ first_new d x more h = by (is_declared d x) refl h where
 
 -- a variable that is declared is the newest
 pub one_declared : (k : Fixed) (x : Variable) (before after : Declared) → after ≡ declare_all k (x ∷ []) before
-    → (after.code.next ≡ before.code.next + 1) × (length after.names ≡ length before.names + 1) × (names_only after.names ≡ x ∷ names_only before.names)
+    → (after.code.next ≡ before.code.next + 1) × (length after.names ≡ length before.names + 1) × (variables_of after.names ≡ x ∷ variables_of before.names)
 one_declared k x before after made =
-    let l = ap (λ (d : Declared). length d.names) made in (ap (λ (d : Declared). d.code.next) made, omega (arith, l), ap (λ (d : Declared). names_only d.names) made)
+    let l = ap (λ (d : Declared). length d.names) made in (ap (λ (d : Declared). d.code.next) made, omega (arith, l), ap (λ (d : Declared). variables_of d.names) made)
 
 -- the next variable of a list
 pub declared_at : (k : Fixed) (xs : List Leaf) (i : ℕ) (x : Leaf) (name : Variable) (before after : Declared) → i < length xs → x ≡ get_or xs i x → name ≡ x.text → after ≡ declare_all k (name ∷ []) before

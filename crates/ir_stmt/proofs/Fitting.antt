@@ -13,12 +13,13 @@ use Rattle.ir_code.specs.Pieces.{call, choice, leave, once, repeat, with_op}
 use Rattle.ir_code.specs.declared.code.Code.{Code}
 use Rattle.rt_stream.specs.Routines.{put_int_routine, put_line_routine}
 use Rattle.tu_value.specs.declared.pieces.Fixed.{Fixed}
+use Rattle.ir_build.specs.Behind.{AreFrom, Grows, IsFit, IsTidy, Makes, SeesAll, Tests, behind, known}
 use Rattle.ir_build.specs.Keeps.{Named}
 use Rattle.ir_build.specs.Code.{Made, Tested, where_tested}
-use Rattle.ir_build.proofs.Fits.{is_and, kept_front, AreFrom, IsTidy, Grows, same_grows, grows_then, grows_more, appended_grows, behind, behind_fits, FitIn, IsFit, defined_append, weight_append}
+use Rattle.ir_build.proofs.Fits.{is_and, kept_front, same_grows, grows_then, grows_more, appended_grows, behind_fits, FitIn, defined_append, weight_append}
 use Rattle.ir_build.proofs.Regions.{weight_choice, weight_once, weight_repeat, defined_choice, defined_once, defined_repeat, choice_fits, once_fits, repeat_fits, leave_fits}
-use Rattle.ir_build.proofs.Operations.{SeesAll, sees_more}
-use Rattle.ir_build.proofs.Makes.{known, still_sees, Makes, Tests}
+use Rattle.ir_build.proofs.Operations.{sees_more}
+use Rattle.ir_build.proofs.Makes.{still_sees}
 use Rattle.ir_stmt.specs.Code.{put_int, put_line, inside, enclosed, with_arm}
 
 -- one scope sees what another one sees

@@ -20,14 +20,15 @@ use Rattle.tu_meaning.specs.Interpreter.{names_of, more_names}
 use Rattle.tu_meaning.specs.Values.{Variable}
 use Rattle.tu_value.specs.Pieces.{with_piece}
 use Rattle.tu_value.specs.declared.pieces.Fixed.{Fixed}
+use Rattle.ir_build.specs.Behind.{Grows, IsFit, Makes, SeesAll, behind, known}
 use Rattle.ir_build.specs.Keeps.{Named}
 use Rattle.ir_build.specs.Code.{code_expr}
 use Rattle.ir_build.proofs.Forms.{both}
 use Rattle.ir_build.specs.Tokens.{tokens_in}
 use Rattle.ir_build.proofs.Tokens.{one_token}
-use Rattle.ir_build.proofs.Fits.{is_and, Grows, same_grows, grows_then, grows_more, behind_grows, behind_seen, behind, behind_fits, FitIn, IsFit}
-use Rattle.ir_build.proofs.Operations.{here, SeesAll, sees_next, store_fits}
-use Rattle.ir_build.proofs.Makes.{known, still_sees, Makes, makes_more, expr_made}
+use Rattle.ir_build.proofs.Fits.{is_and, same_grows, grows_then, grows_more, behind_grows, behind_seen, behind_fits, FitIn}
+use Rattle.ir_build.proofs.Operations.{here, sees_next, store_fits}
+use Rattle.ir_build.proofs.Makes.{still_sees, makes_more, expressions_fit}
 use Rattle.ir_stmt.specs.Code.{Declared, declare_code, declare_all, store_all, started, code_var, code_item, code_items}
 use Rattle.ir_stmt.specs.Built.{is_item_built, are_items_built, declared_after}
 use Rattle.ir_stmt.proofs.Fitting.{Calls}
@@ -93,7 +94,7 @@ module _ (u : RegionUnit) (r : Routine) (calls : Calls u r) (k : Fixed) where
   start_does : (line : ℕ) (xs : List Variable) (e : Of r-expr) (d : Declared) → Declares Unit (12 * tokens_in e + length xs) 0 d (started k line xs e d)
   start_does line xs e d =
       let x = code_expr k d.names line e d.code in
-      let m = all_stored d.names x.value xs {most = 12 * tokens_in e + length xs} (expr_made u r k d.names line e d.code) (omega arith) in
+      let m = all_stored d.names x.value xs {most = 12 * tokens_in e + length xs} (expressions_fit u r k d.names line e d.code) (omega arith) in
       record { grows = m.grows; fewer = omega arith; many = omega arith; fits = λ s p n h z. (m.fits s h z, still_sees s (known k d.names) m.grows h) }
 
   started_does : (line : ℕ) (names : Of r-names) (e : Of r-expr) (d : Declared) → Declares Unit (12 * tokens_in names + 12 * tokens_in e) (tokens_in names) d (started k line (names_of names) e (declare_all k (names_of names) d))

@@ -22,15 +22,16 @@ use Rattle.tu_tree.specs.StatementViews.{simple, block_part}
 use Rattle.tu_meaning.specs.Values.{Variable, variable_of}
 use Rattle.tu_value.specs.Pieces.{with_piece, store_code}
 use Rattle.tu_value.specs.declared.pieces.Fixed.{Fixed}
+use Rattle.ir_build.specs.Behind.{AreFrom, Makes, Seen, SeesAll, behind, known}
 use Rattle.ir_build.specs.Keeps.{Named}
 use Rattle.ir_build.specs.Built.{is_tested}
 use Rattle.ir_build.specs.Code.{Made, named, code_expr, test_expr}
 use Rattle.ir_build.proofs.Forms.{both}
 use Rattle.ir_build.specs.Tokens.{tokens_in}
 use Rattle.ir_build.proofs.Tokens.{one_token}
-use Rattle.ir_build.proofs.Fits.{AreFrom, Seen, same_grows, grows_then, behind_grows, behind_seen, behind, behind_fits, FitIn}
-use Rattle.ir_build.proofs.Operations.{here, SeesAll, sees_next, store_grows, store_fits, none, constants, computes, raises}
-use Rattle.ir_build.proofs.Makes.{known, still_sees, address_seen, Makes, makes_more, expr_made, test_made}
+use Rattle.ir_build.proofs.Fits.{same_grows, grows_then, behind_grows, behind_seen, behind_fits, FitIn}
+use Rattle.ir_build.proofs.Operations.{here, sees_next, store_grows, store_fits, none, constants, computes, raises}
+use Rattle.ir_build.proofs.Makes.{still_sees, address_seen, makes_more, expressions_fit, conditions_fit}
 use Rattle.ir_stmt.specs.Code.{put_int, put_line, inside, width_code, with_arm, code_width, code_shown, code_shown_more, code_end, stored, code_simple, code_statement, code_elsifs, code_otherwise, code_block, code_parts}
 use Rattle.ir_stmt.specs.Built.{is_simple_built, is_statement_built, are_elsifs_built, is_otherwise_built, is_block_built, are_parts_built}
 use Rattle.ir_stmt.proofs.Fitting.{Calls, op_fits, put_int_fits, put_line_fits, pushed_grows, Does, does_then, does_more, nothing_does, made_does, Takes, leave_does, when_does, arm_does, once_does, repeat_does}
@@ -61,7 +62,7 @@ module _ (u : RegionUnit) (r : Routine) (calls : Calls u r) (k : Fixed) (names :
   width_made line Absent code = record { grows = same_grows _ code; fits = λ s h e. e; seen = λ s h. h.0 }
   width_made line (Present (Behind colon e)) code =
       let x = code_expr k names line e code in
-      let m = expr_made u r k names line e code in
+      let m = expressions_fit u r k names line e code in
       let one = one_token colon in
       let n = x.code.next in
       let ops = width_code k line x.value n in
@@ -77,7 +78,7 @@ module _ (u : RegionUnit) (r : Routine) (calls : Calls u r) (k : Fixed) (names :
   shown_does line (Shown m e width) code =
       let x = code_expr k names line e code in
       let w = code_width k names line width x.code in
-      let a = expr_made u r k names line e code in
+      let a = expressions_fit u r k names line e code in
       let b = width_made line width x.code in
       let op = call put_int (x.value ∷ w.value ∷ []) line in
       record {
@@ -123,7 +124,7 @@ module _ (u : RegionUnit) (r : Routine) (calls : Calls u r) (k : Fixed) (names :
     simple_does is_inside outside m (Exit word) code = let one = one_token word in does_more u r k names (leave_does u r k names outside code) (λ loops p. p.1 p.0) (omega arith)
     simple_does is_inside outside m (ExitWhen word when e) code =
         let one = one_token word in
-        does_more u r k names (when_does u r k names outside (test_made u r k names m.line e code)) (λ loops p. p.1 (both is_inside (is_tested declared e) p.0).0) (omega arith)
+        does_more u r k names (when_does u r k names outside (conditions_fit u r k names m.line e code)) (λ loops p. p.1 (both is_inside (is_tested declared e) p.0).0) (omega arith)
     simple_does is_inside outside m (Put word Absent (Listed first more) dots) code =
         let one = one_token word in
         let a = shown_does m.line first code in
@@ -163,7 +164,7 @@ module _ (u : RegionUnit) (r : Routine) (calls : Calls u r) (k : Fixed) (names :
       elsifs_do is_inside outside (More (Elsif m word e next_word block) more) h code =
           let one = one_token word in
           let test = test_expr k names m.line e code in
-          let a = arm_does u r k names {most = 12 * tokens_in e + 12 * tokens_in block + 2} (test_made u r k names m.line e code) (block_does is_inside outside block (omega (arith, h)) (inside test.code)) (omega arith) in
+          let a = arm_does u r k names {most = 12 * tokens_in e + 12 * tokens_in block + 2} (conditions_fit u r k names m.line e code) (block_does is_inside outside block (omega (arith, h)) (inside test.code)) (omega arith) in
           does_then u r k names a (elsifs_do is_inside outside more (omega (arith, h)) (with_arm test (code_block k names outside block (inside test.code))))
           (λ loops p.
           let q = both (is_tested declared e) (is_block_built declared is_inside block && are_elsifs_built declared is_inside more) p.0.0 in
@@ -178,7 +179,7 @@ module _ (u : RegionUnit) (r : Routine) (calls : Calls u r) (k : Fixed) (names :
           let body = code_block k names (outside + 1) block (inside test.code) in
           let arms = code_elsifs k names (outside + 1) elsifs (with_arm test body) in
           let B = is_block_built declared is_inside block in let E = are_elsifs_built declared is_inside elsifs in let O = is_otherwise_built declared is_inside otherwise in
-          let a = arm_does u r k names {most = 12 * tokens_in e + 12 * tokens_in block + 2} (test_made u r k names m.line e (inside code)) (block_does is_inside (outside + 1) block (omega (arith, h)) (inside test.code)) (omega arith) in
+          let a = arm_does u r k names {most = 12 * tokens_in e + 12 * tokens_in block + 2} (conditions_fit u r k names m.line e (inside code)) (block_does is_inside (outside + 1) block (omega (arith, h)) (inside test.code)) (omega arith) in
           let b = elsifs_do is_inside (outside + 1) elsifs (omega (arith, h)) (with_arm test body) in
           let c = otherwise_does is_inside (outside + 1) otherwise (omega (arith, h)) arms in
           let d = leave_does u r k names 0 (code_otherwise k names (outside + 1) otherwise arms) in
@@ -197,7 +198,7 @@ module _ (u : RegionUnit) (r : Routine) (calls : Calls u r) (k : Fixed) (names :
       loop_level is_inside outside m word (Present z) block end again h code = nothing_does u r k names _ _ code
 
       path_level : (is_inside : Bool) (outside : ℕ) (m : Mark) (z : Part (rule r-path ⨟ maybe (lexeme SignAssign ⨟ rule r-expr))) (code : Code) → Does u r k names (IsBuilt (is_statement_built declared is_inside (n-rule m (n-left z))) is_inside outside) (12 * tokens_in z) code (code_statement k names outside (n-rule m (n-left z)) code)
-      path_level is_inside outside m (n-sequence (Path mp root NoMore) (n-left (n-sequence sign e))) code = let one = one_token sign in made_does u r k names (stored_made {most = 12 * (tokens_in (Path mp root NoMore) + (tokens_in sign + tokens_in e))} (variable_of root) (expr_made u r k names m.line e code) (omega arith))
+      path_level is_inside outside m (n-sequence (Path mp root NoMore) (n-left (n-sequence sign e))) code = let one = one_token sign in made_does u r k names (stored_made {most = 12 * (tokens_in (Path mp root NoMore) + (tokens_in sign + tokens_in e))} (variable_of root) (expressions_fit u r k names m.line e code) (omega arith))
       path_level is_inside outside m (n-sequence (Path mp root (More z zs)) (n-left (n-sequence sign e))) code = nothing_does u r k names _ _ code
       path_level is_inside outside m (n-sequence (Path mp root NoMore) (n-right z)) code = nothing_does u r k names _ _ code
       path_level is_inside outside m (n-sequence (Path mp root (More y ys)) (n-right z)) code = nothing_does u r k names _ _ code

@@ -1,5 +1,5 @@
 -- Declarations and items.
-use Rattle.std.proofs.Common.{◌≡◌, ℕ, suc, ◌+◌, ◌*◌, ◌<◌, ◌≤◌, List, [], ◌∷◌, ◌++◌, length, refl, sym, ◌∙◌, ap, subst, arith, append_assoc, map, Some}
+use Rattle.std.proofs.Common.{◌≡◌, ℕ, suc, ◌+◌, ◌*◌, ◌<◌, ◌≤◌, List, [], ◌∷◌, ◌++◌, length, refl, sym, ◌∙◌, ap, subst, arith, append_assoc, Some}
 use Rattle.std.specs.Prelude.{if◌then◌else◌}
 use Rattle.std.specs.Str.{bytes_eq}
 use Rattle.std.proofs.lemmas.Slice.Eq.{bytes_eq-Decides}
@@ -19,11 +19,11 @@ use Rattle.tu_meaning.specs.Store.{Store, by_copying, assign_root}
 use Rattle.tu_meaning.specs.Values.{Unset, Variable, Global}
 use Rattle.tu_meaning.specs.Interpreter.{declare_all}
 use Rattle.tu_value.specs.Words.{word_of}
-use Rattle.tu_value.specs.Pieces.{store_code}
-use Rattle.tu_value.specs.Meets.{StoresWord}
+use Rattle.tu_value.specs.Pieces.{unset_code}
+use Rattle.tu_value.specs.Meets.{HasFixed, StoresWord}
 use Rattle.tu_value.proofs.Cells.{store_keeps}
-use Rattle.tu_value.proofs.Leaves.{store_runs}
-use Rattle.ir_build.specs.Keeps.{factor, Named, Site, word_at, AllLie, Holds, Post, Keeps}
+use Rattle.tu_value.proofs.Leaves.{unset_runs}
+use Rattle.ir_build.specs.Keeps.{factor, Named, Site, word_at, AllLie, Holds, Post, Keeps, variables_of}
 use Rattle.ir_build.proofs.Words.{keeps_is, keeps_more, keeps_paid, keeps_given, keeps_grouped, keeps_change}
 use Rattle.ir_stmt.specs.Code.{Declared, declare_code, declare_all as code_declare_all}
 use Rattle.ir_stmt.proofs.Stores.{AllBelow, IsOrdered, older, lie_after, stored_value}
@@ -50,15 +50,12 @@ abbrev pub AreNew : List Variable → List Variable → Type 0
 AreNew [] declared = Unit {0}
 AreNew (y ∷ more) declared = IsNew y declared × AreNew more (y ∷ declared)
 
-abbrev pub names_in : List Named → List Variable
-names_in names = map (λ (n : Named). n.name) names
-
 -- the words of variables are taken in order
 abbrev pub AreBelow : ℕ → List Named → Type 0
 AreBelow word [] = Unit {0}
 AreBelow word (n ∷ names) = (n.word < word) × AreBelow word names
 
-new_below : (y : Variable) (word at : ℕ) (names : List Named) → IsNew y (names_in names) → AreBelow word names → AllBelow (record { name = y; word = word; at = at }) names
+new_below : (y : Variable) (word at : ℕ) (names : List Named) → IsNew y (variables_of names) → AreBelow word names → AllBelow (record { name = y; word = word; at = at }) names
 new_below y word at [] h l = tt
 new_below y word at (n ∷ names) h l = (l.0, h.0, new_below y word at names h.1 l.1)
 
@@ -84,14 +81,14 @@ pub record AreFine (names : List Named) : Type 0 where
   pub ordered : IsOrdered names
   pub below : AreBelow (length names) names
 
-fine_more : (y : Variable) (at : ℕ) (names : List Named) → IsNew y (names_in names) → AreFine names → AreFine (record { name = y; word = length names; at = at } ∷ names)
+fine_more : (y : Variable) (at : ℕ) (names : List Named) → IsNew y (variables_of names) → AreFine names → AreFine (record { name = y; word = length names; at = at } ∷ names)
 fine_more y at names new f = record { ordered = (new_below y (length names) at names new f.below, f.ordered); below = (omega arith, below_more (length names) (suc (length names)) names (omega arith) f.below) }
 
 abbrev declared_state : Site → CodeState → (n word : ℕ) → CodeState
 declared_state x st n word = record (set st n (word_at x.setting word)) { cells = with_word st.cells (word_at x.setting word) 0 }
 
 -- a variable more, which is unset
-declared_holds : (x : Site) (left : ℕ) (s : State Store) (st : CodeState) (c c' n word : ℕ) (y : Variable) → IsNew y (names_in x.names) → AreBelow word x.names → word < x.setting.globals → x.low ≤ n → c ≤ c' → Holds x left s st c →
+declared_holds : (x : Site) (left : ℕ) (s : State Store) (st : CodeState) (c c' n word : ℕ) (y : Variable) → IsNew y (variables_of x.names) → AreBelow word x.names → word < x.setting.globals → x.low ≤ n → c ≤ c' → Holds x left s st c →
     Holds (record x { names = record { name = y; word = word; at = n } ∷ x.names; low = n + 1 }) left (record s { store = assign_root s.store (Global y) Unset }) (declared_state x st n word) c'
 declared_holds x left s st c c' n word y new below lt low le h =
     let a = word_at x.setting word in
@@ -140,7 +137,7 @@ declare_next x (y ∷ more) d =
     let n = d.code.next in let word = length d.names in
     let q = declare_next x more (record { code = record { ops = d.code.ops ++ declare_code x.fixed word n; next = n + 1 }; names = record { name = y; word = word; at = n } ∷ d.names }) in omega arith
 
-pub declare_fine : (x : Site) (variables : List Variable) (d : Declared) → AreNew variables (names_in d.names) → AreFine d.names → AreFine (code_declare_all x.fixed variables d).names
+pub declare_fine : (x : Site) (variables : List Variable) (d : Declared) → AreNew variables (variables_of d.names) → AreFine d.names → AreFine (code_declare_all x.fixed variables d).names
 declare_fine x [] d new fine = fine
 declare_fine x (y ∷ more) d new fine =
     let n = d.code.next in let word = length d.names in
@@ -151,7 +148,7 @@ stores_then r e = ap (λ h. record { how = h; state = r.state; cost = r.cost }) 
 
 module _ (x : Site) (calls : Calls) (depth : ℕ) where
   -- Declarations, and what follows them. Each pays some more than its code costs.
-  pub declares_then : {A : Type 0} {P : Post A} (k : Step Store A) (go : CodeState → ℕ → Run) (variables : List Variable) (d : Declared) (p : ℕ) → AreNew variables (names_in d.names) → AreFine d.names → length d.names + length variables ≤ x.setting.globals →
+  pub declares_then : {A : Type 0} {P : Post A} (k : Step Store A) (go : CodeState → ℕ → Run) (variables : List Variable) (d : Declared) (p : ℕ) → AreNew variables (variables_of d.names) → AreFine d.names → length d.names + length variables ≤ x.setting.globals →
       ((left : ℕ) (s : State Store) (st : CodeState) (c : ℕ) (tr : Trace) (b : ℕ) → Holds (at_site x (code_declare_all x.fixed variables d)) left s st c → st.world ≡ traced x.world tr → c ≤ b → Keeps x P tr (b + p + 200 * length variables) (k s) (go st c)) →
       (left : ℕ) (s : State Store) (st : CodeState) (c : ℕ) (tr : Trace) (b : ℕ) → Holds (at_site x d) left s st c → st.world ≡ traced x.world tr → c ≤ b →
       Keeps x P tr (b + p) ((declare_all Store by_copying x.turns depth [] variables >> k) s) (on_run (run_list x.setting calls (declare_ops x variables d.code.next (length d.names)) st c) go)
@@ -166,8 +163,9 @@ module _ (x : Site) (calls : Calls) (depth : ℕ) where
       let a = word_at x.setting word in
       let lt : word < x.setting.globals = omega (arith, few) in
       let st1 = set st n a in
-      let r = run_list x.setting calls (store_code n x.fixed.zero) st1 (c + 7) in
-      let u : StoresWord a 0 st1 (c + 7) r = store_runs x.setting calls n x.fixed.zero a 0 st1 (c + 7) (set_same st.env n a) (set_below st.env n a x.fixed.zero h.fixed.zero_below ∙ h.fixed.zero_is) (h.writable word lt) in
+      let r = run_list x.setting calls (unset_code x.fixed n) st1 (c + 7) in
+      let fixed : HasFixed x.fixed n st1 = record { zero_below = h.fixed.zero_below; zero_is = set_below st.env n a x.fixed.zero h.fixed.zero_below ∙ h.fixed.zero_is; top_below = h.fixed.top_below; top_is = set_below st.env n a x.fixed.top h.fixed.top_below ∙ h.fixed.top_is } in
+      let u : StoresWord a (word_of Unset) st1 (c + 7) r = unset_runs x.setting calls x.fixed n n a st1 (c + 7) fixed (set_same st.env n a) (h.writable word lt) in
       let s1 : State Store = record s { store = assign_root s.store (Global y) Unset } in
       keeps_grouped (pay 2) (λ _. change (λ s. assign_root s (Global y) Unset) >> D) (λ _. k) s _ (keeps_paid 2 s ((change (λ s. assign_root s (Global y) Unset) >> D) >> k) _
       (keeps_grouped (change (λ s. assign_root s (Global y) Unset)) (λ _. D) (λ _. k) s _ (keeps_change (λ s. assign_root s (Global y) Unset) (D >> k) s _

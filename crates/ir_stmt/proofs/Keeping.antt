@@ -1,6 +1,6 @@
 -- The unit of a program does what the program does.
 use Rattle.std.proofs.Common.{◌≡◌, ℕ, suc, ◌+◌, ◌*◌, ◌%◌, ◌<◌, ◌≤◌, Bool, true, false, List, [], ◌++◌, length, refl, sym, ◌∙◌, ap, subst, arith, Option, Some}
-use Rattle.std.specs.Prelude.{◌==◌, ◌&&◌, if◌then◌else◌, nat_le, nat_lt, slice_get, ℤ, pos, negsuc}
+use Rattle.std.specs.Prelude.{◌==◌, ◌&&◌, if◌then◌else◌, nat_le, nat_lt, slice_get}
 use Rattle.std.proofs.lemmas.List.{append-nil}
 use Rattle.std.proofs.lemmas.Bool.Decides.{nat_tests}
 use Rattle.tu_base.specs.Files.{Files}
@@ -24,10 +24,8 @@ use Rattle.tu_meaning.specs.Meaning.{verdict_of}
 use Rattle.tu_meaning.specs.Programs.{start as start_of, execution, meaning as program_meaning}
 use Rattle.tu_meaning.specs.Steps.{Added, Outcome, Done, Raised, Going}
 use Rattle.tu_meaning.specs.Store.{Store, by_copying}
-use Rattle.rt_stream.specs.Laws.{int_word}
 use Rattle.rt_stream.specs.Routines.{put_int_routine, put_line_routine}
 use Rattle.rt_stream.proofs.Calls.{put_int_meets, put_line_meets}
-use Rattle.tu_value.specs.Words.{word_of_int}
 use Rattle.tu_value.specs.Pieces.{fixed_from, fixed_code}
 use Rattle.tu_value.specs.Meets.{HasFixed}
 use Rattle.tu_value.specs.Laws.{GivesFixed}
@@ -42,14 +40,10 @@ use Rattle.ir_stmt.proofs.Items.{stores_then}
 use Rattle.ir_stmt.proofs.Wider.{both_are}
 use Rattle.ir_stmt.proofs.Sequences.{ItemsDo, items_do}
 
-same_word : (z : ℤ) → int_word z ≡ word_of_int z
-same_word (pos n) = refl
-same_word (negsuc n) = refl
-
 -- the routines of the run time, at their places
 run_time : (x : Site) (rs : List Routine) (n : ℕ) → end_at x.setting ≤ 4294967296 → slice_get rs put_int ≡ Some put_int_routine → slice_get rs put_line ≡ Some put_line_routine → RunTime x (calls_within x.setting rs (suc n))
 run_time x rs n high first second = record {
-  int = λ a b line z width st c ea eb lz lw room rounds. put_int_meets x.setting rs n put_int a b line z width st c high first (ea ∙ ap Some (sym (same_word z))) eb lz lw room rounds;
+  int = λ a b line z width st c ea eb lz lw room rounds. put_int_meets x.setting rs n put_int a b line z width st c high first ea eb lz lw room rounds;
   line = λ line st c room. put_line_meets x.setting rs n put_line line st c second room;
 }
 

@@ -24,7 +24,7 @@ use Rattle.ir_build.specs.Code.{test_expr}
 use Rattle.ir_build.specs.Built.{is_built, is_built_path, is_tested}
 use Rattle.ir_build.proofs.Words.{keeps_give}
 use Rattle.ir_build.proofs.Forms.{both}
-use Rattle.ir_build.proofs.Conditions.{condition_does}
+use Rattle.ir_build.proofs.Conditions.{conditions_do}
 use Rattle.ir_stmt.specs.Code.{inside, with_arm, code_simple, code_statement, code_elsifs, code_otherwise, code_block, code_parts}
 use Rattle.ir_stmt.specs.Built.{is_shown_built, are_shown_built, is_simple_built, is_statement_built, are_elsifs_built, is_otherwise_built, is_block_built, are_parts_built}
 use Rattle.ir_stmt.proofs.Stores.{IsOrdered}
@@ -91,7 +91,7 @@ module _ (x : Site) (calls : Calls) (rt : RunTime x calls) (ordered : IsOrdered 
     elsifs_do is_inside outside (More (Elsif m word e next_word block) more) otherwise h k b d code low =
         let q = both (is_tested declared e) (is_block_built declared is_inside block && are_elsifs_built declared is_inside more) b in
         let r = both (is_block_built declared is_inside block) (are_elsifs_built declared is_inside more) q.1 in
-        let a = condition_does x calls depth m.line e q.0 code low in
+        let a = conditions_do x calls depth m.line e q.0 code low in
         let test = test_expr x.fixed x.names m.line e code in
         let la = a.more in
         let body = block_does is_inside (outside + 1) block (omega (arith, h)) r.0 (inside test.code) (omega arith) in
@@ -109,7 +109,7 @@ module _ (x : Site) (calls : Calls) (rt : RunTime x calls) (ordered : IsOrdered 
         let q = both (is_tested declared e) (is_block_built declared is_inside block && (are_elsifs_built declared is_inside elsifs && is_otherwise_built declared is_inside otherwise)) b in
         let r = both (is_block_built declared is_inside block) (are_elsifs_built declared is_inside elsifs && is_otherwise_built declared is_inside otherwise) q.1 in
         let u = both (are_elsifs_built declared is_inside elsifs) (is_otherwise_built declared is_inside otherwise) r.1 in
-        let a = condition_does x calls depth m.line e q.0 (inside code) low in
+        let a = conditions_do x calls depth m.line e q.0 (inside code) low in
         let test = test_expr x.fixed x.names m.line e (inside code) in
         let la = a.more in
         let body = block_does is_inside (outside + 1) block (omega (arith, h)) r.0 (inside test.code) (omega arith) in

@@ -20,7 +20,7 @@ use Rattle.tu_meaning.specs.Steps.{Added, Outcome, Done, Raised, Going, State, S
 use Rattle.tu_meaning.specs.Store.{Store, by_copying}
 use Rattle.tu_meaning.specs.Values.{Variable}
 use Rattle.tu_meaning.specs.Interpreter.{Flow, Next, Exits, only_next, names_of, execute, execute_var, execute_item, execute_items}
-use Rattle.ir_build.specs.Keeps.{Site, Holds, Post, Ends, Keeps}
+use Rattle.ir_build.specs.Keeps.{Site, Holds, Post, Ends, Keeps, variables_of}
 use Rattle.ir_build.specs.Built.{is_built}
 use Rattle.ir_build.proofs.Words.{passes_next, keeps_flow, keeps_is, keeps_more, keeps_give}
 use Rattle.ir_build.proofs.Forms.{both}
@@ -30,7 +30,7 @@ use Rattle.ir_stmt.specs.Leaves.{GoesOn, Leaves}
 use Rattle.ir_stmt.proofs.Shown.{RunTime}
 use Rattle.ir_stmt.proofs.Simple.{StatementDoes}
 use Rattle.ir_stmt.proofs.Levels.{statement_does}
-use Rattle.ir_stmt.proofs.Items.{at_site, keeps_site, names_in, AreFine}
+use Rattle.ir_stmt.proofs.Items.{at_site, keeps_site, AreFine}
 use Rattle.ir_stmt.proofs.Wider.{no_so}
 use Rattle.ir_stmt.proofs.Starts.{holds_higher, ItemDoes, declaration_does, started_does}
 
@@ -69,8 +69,8 @@ module _ {x : Site} {calls : Calls} where
       goes few Exits s how st c tr b g w le = no_so g.way.1
 
 module _ (x : Site) (calls : Calls) (rt : RunTime x calls) (depth : ℕ) (enough : x.turns ≤ depth) where
-  statement_item_does : (s : Of r-statement) (d : Declared) → is_statement_built (names_in d.names) false s ≡ true → AreFine d.names →
-      ItemDoes x calls (execute Store by_copying x.turns depth [] s) (names_in d.names) d (record { code = code_statement x.fixed d.names 0 s d.code; names = d.names })
+  statement_item_does : (s : Of r-statement) (d : Declared) → is_statement_built (variables_of d.names) false s ≡ true → AreFine d.names →
+      ItemDoes x calls (execute Store by_copying x.turns depth [] s) (variables_of d.names) d (record { code = code_statement x.fixed d.names 0 s d.code; names = d.names })
   statement_item_does s d built fine =
       let y : Site = at_site x d in
       let made : Declared = record { code = code_statement x.fixed d.names 0 s d.code; names = d.names } in
@@ -85,18 +85,18 @@ module _ (x : Site) (calls : Calls) (rt : RunTime x calls) (depth : ℕ) (enough
         keeps = λ few s st c tr b h w le. keeps_site refl refl (keeps_post {x = y} {P = Leaves y x.turns false 0} (λ flow s1 g. record { way = g.way; holds = holds_higher made.code.next a.more g.holds }) (a.keeps x.turns s st c tr b h w le));
       }
 
-  var_does : (v : Of r-var) (d : Declared) → is_var_built (names_in d.names) v ≡ true → AreFine d.names → ItemDoes x calls (execute_var Store by_copying x.turns depth [] v >> give Next) (with_names (names_in d.names) (variables_in v)) d (code_var x.fixed v d)
+  var_does : (v : Of r-var) (d : Declared) → is_var_built (variables_of d.names) v ≡ true → AreFine d.names → ItemDoes x calls (execute_var Store by_copying x.turns depth [] v >> give Next) (with_names (variables_of d.names) (variables_in v)) d (code_var x.fixed v d)
   var_does (StartedDeclaration m word names sign e) d b fine =
-      let q = both (are_new (names_in d.names) (names_of names)) (is_built (names_in d.names) e) b in started_does x calls depth m.line (names_of names) e d q.0 q.1 fine
+      let q = both (are_new (variables_of d.names) (names_of names)) (is_built (variables_of d.names) e) b in started_does x calls depth m.line (names_of names) e d q.0 q.1 fine
   var_does (TypedDeclaration m word names colon (Spec at NoMore (IntType base int)) Absent) d b fine = declaration_does x calls depth (names_of names) d b fine
   var_does (TypedDeclaration m word names colon (Spec at NoMore (IntType base int)) (Present (Behind sign (ValueStart start e)))) d b fine =
-      let q = both (are_new (names_in d.names) (names_of names)) (is_built (names_in d.names) e) b in started_does x calls depth m.line (names_of names) e d q.0 q.1 fine
+      let q = both (are_new (variables_of d.names) (names_of names)) (is_built (variables_of d.names) e) b in started_does x calls depth m.line (names_of names) e d q.0 q.1 fine
   var_does (TypedDeclaration m word names colon (Spec at NoMore (IntType base int)) (Present (Behind sign (n-rule start (n-right z))))) d b fine = no_so b
   var_does (TypedDeclaration m word names colon (Spec at NoMore (n-rule base (n-right z))) start) d b fine = no_so b
   var_does (TypedDeclaration m word names colon (Spec at (More z zs) base) start) d b fine = no_so b
   var_does (CollectionDeclaration m word names colon collection of spec) d b fine = no_so b
 
-  item_does : (i : Of r-item) (d : Declared) → is_item_built (names_in d.names) i ≡ true → AreFine d.names → ItemDoes x calls (execute_item Store by_copying x.turns depth [] i) (declared_after (names_in d.names) i) d (code_item x.fixed i d)
+  item_does : (i : Of r-item) (d : Declared) → is_item_built (variables_of d.names) i ≡ true → AreFine d.names → ItemDoes x calls (execute_item Store by_copying x.turns depth [] i) (declared_after (variables_of d.names) i) d (code_item x.fixed i d)
   item_does (ItemVar m v) d b fine = var_does v d b fine
   item_does (ItemStatement m s) d b fine = statement_item_does s d b fine
   item_does (ItemConst m z) d b fine = no_so b
@@ -104,9 +104,9 @@ module _ (x : Site) (calls : Calls) (rt : RunTime x calls) (depth : ℕ) (enough
   item_does (ItemSubprogram m z) d b fine = no_so b
   item_does (ItemModule m z) d b fine = no_so b
 
-  pub items_do : (items : Part (many (separated (rule r-item)))) (d : Declared) → are_items_built (names_in d.names) items ≡ true → AreFine d.names → ItemsDo x calls (execute_items Store by_copying x.turns depth [] items) d (code_items x.fixed items d)
+  pub items_do : (items : Part (many (separated (rule r-item)))) (d : Declared) → are_items_built (variables_of d.names) items ≡ true → AreFine d.names → ItemsDo x calls (execute_items Store by_copying x.turns depth [] items) d (code_items x.fixed items d)
   items_do NoMore d b fine = record { ops = []; is = sym (append-nil d.code.ops); longer = omega arith; keeps = λ few s st c tr b h w le. keeps_give tt s _ (record { way = refl; holds = h }) w le }
   items_do (More (Separated item semicolon) more) d b fine =
-      let q = both (is_item_built (names_in d.names) item) (are_items_built (declared_after (names_in d.names) item) more) b in
+      let q = both (is_item_built (variables_of d.names) item) (are_items_built (declared_after (variables_of d.names) item) more) b in
       let a = item_does item d q.0 fine in
       items_in_order a (items_do more (code_item x.fixed item d) (subst (λ z. are_items_built z more ≡ true) (sym a.names) q.1) a.fine)

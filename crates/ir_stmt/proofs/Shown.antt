@@ -1,22 +1,22 @@
 -- `put`.
-use Rattle.std.proofs.Common.{◌≡◌, ℕ, suc, ◌+◌, ◌-◌, ◌*◌, ◌%◌, ◌<◌, ◌≤◌, Bool, true, false, List, [], ◌∷◌, ◌++◌, length, map, refl, sym, ◌∙◌, ap, subst, arith, append_assoc, Some}
+use Rattle.std.proofs.Common.{◌≡◌, ℕ, suc, ◌+◌, ◌-◌, ◌*◌, ◌<◌, ◌≤◌, Bool, true, false, List, [], ◌∷◌, ◌++◌, length, map, refl, sym, ◌∙◌, ap, subst, arith, append_assoc, Some}
 use Rattle.std.specs.Prelude.{if◌then◌else◌, nat_lt, ℤ, pos, negsuc, unsigned_abs}
+use Rattle.std.specs.Int.{w32, cast_unsigned}
 use Rattle.std.specs.Fmt.{signed_decimal}
 use Rattle.std.proofs.lemmas.List.{append-nil}
 use Rattle.std.proofs.lemmas.Bool.Decides.{nat_tests}
 use Rattle.tu_base.specs.Trace.{Trace, Put as put_byte}
 use Rattle.tu_base.specs.declared.kind.Kind.TheVariants as kind
 use Rattle.rv_image.specs.Streams.{traced}
-use Rattle.rv_isa.specs.declared.instr.RegisterOp.TheVariants.{Add}
 use Rattle.rv_isa.specs.declared.instr.Relation.TheVariants.{LessUnsigned}
 use Rattle.ir_form.specs.declared.op.Op.{Op}
 use Rattle.ir_form.specs.Plain.{Calls}
 use Rattle.ir_form.specs.Meaning.{run_list}
 use Rattle.ir_form.specs.State.{State as CodeState, next, on_run, on_how}
-use Rattle.ir_code.specs.Pieces.{call}
+use Rattle.ir_code.specs.Pieces.{call, constant, raise_unless}
 use Rattle.ir_code.specs.declared.code.Code.{Code}
 use Rattle.ir_code.proofs.Running.{runs_in_order}
-use Rattle.ir_code.proofs.Steps.{set, set_same, set_below, none, stops, ◌▸◌, ◌▹◌, constant_goes, compute_goes, check_goes, check_stops}
+use Rattle.ir_code.proofs.Steps.{set, set_same, set_below, none, stops, ◌▸◌, ◌▹◌, constant_goes, check_goes, check_stops}
 use Rattle.tu_meaning.specs.Interpreter.{Flow, Next, execute_simple, evaluate, show, show_more, end_line, is_width, width_of, put, put_value}
 use Rattle.grammar.specs.Description.{rule}
 use Rattle.tu_token.specs.declared.class.Class.TheVariants.{SignComma, SignRange, WordPut}
@@ -27,13 +27,16 @@ use Rattle.tu_meaning.specs.Operators.{is_int}
 use Rattle.tu_meaning.specs.Steps.{State, Step, give, raise, pay, happen, ◌>>=◌, ◌>>◌}
 use Rattle.tu_meaning.specs.Store.{Store, by_copying}
 use Rattle.tu_meaning.specs.Values.{Value, Int, Variable}
+use Rattle.tu_value.specs.Meets.{HasInt}
+use Rattle.tu_value.specs.Pieces.{number_code}
 use Rattle.tu_value.specs.Words.{word_of_int}
+use Rattle.tu_value.proofs.Leaves.{number_is_given}
 use Rattle.rt_stream.specs.Laws.{Puts, padded, put_int_rounds, put_int_most, put_line_most, HasRoom}
 use Rattle.rt_stream.specs.Routines.{put_int_routine, put_line_routine}
 use Rattle.ir_build.specs.Keeps.{Named, Site, Holds, Keeps, Met}
 use Rattle.ir_build.specs.Code.{code_expr}
-use Rattle.ir_build.proofs.Forms.{both, expr_does}
-use Rattle.ir_build.proofs.Pieces.{operators}
+use Rattle.ir_build.proofs.Conditions.{expressions_do}
+use Rattle.ir_build.proofs.Forms.{both}
 use Rattle.ir_build.proofs.Words.{passes_next, keeps_flow, keeps_is, keeps_more, keeps_paid, keeps_give, keeps_given, keeps_grouped, keeps_raise_then}
 use Rattle.ir_build.proofs.States.{holds_still, fixed_above}
 use Rattle.ir_build.proofs.Values.{then_none}
@@ -49,16 +52,13 @@ use Rattle.ir_stmt.proofs.Puts.{puts_holds}
 
 -- what calls of the routines of the run time do
 pub record RunTime (x : Site) (calls : Calls) : Type 0 where
-  pub int : (a b line : ℕ) (z : ℤ) (width : ℕ) (st : CodeState) (c : ℕ) → st.env a ≡ Some (word_of_int z) → st.env b ≡ Some width → unsigned_abs z ≤ 2147483647 → width ≤ 255 → HasRoom put_int_routine st → put_int_rounds ≤ st.others →
+  pub int : (a b line : ℕ) (z : ℤ) (width : ℕ) (st : CodeState) (c : ℕ) → st.env a ≡ Some (word_of_int z) → st.env b ≡ Some width → is_int z ≡ true → width ≤ 255 → HasRoom put_int_routine st → put_int_rounds ≤ st.others →
       let bytes = padded width (signed_decimal z) in
       Puts x.setting put_int_routine bytes (put_int_most bytes) st c (calls put_int (a ∷ b ∷ []) [] line st c)
   pub line : (line : ℕ) (st : CodeState) (c : ℕ) → HasRoom put_line_routine st → Puts x.setting put_line_routine (10 ∷ []) put_line_most st c (calls put_line [] [] line st c)
 
 plus_none : (n : ℕ) → n + 0 ≡ n
 plus_none n = omega arith
-
-int_size : (z : ℤ) → is_int z ≡ true → unsigned_abs z ≤ 2147483647
-int_size z e = grind (arith, nat_tests, e)
 
 module _ (x : Site) (calls : Calls) (rt : RunTime x calls) where
   -- an int is put
@@ -72,7 +72,7 @@ module _ (x : Site) (calls : Calls) (rt : RunTime x calls) where
         let en : b + 120 * (32 + (n + 0)) ≤ x.most = enough in
         let r = calls put_int (a ∷ w ∷ []) [] line st (c + 26) in
         let o = h.others in let rm = h.rooms in
-        let p : Puts x.setting put_int_routine bytes (put_int_most bytes) st (c + 26) r = rt.int a w line z width st (c + 26) ea ew (int_size z small) lw (omega arith) (omega arith) in
+        let p : Puts x.setting put_int_routine bytes (put_int_most bytes) st (c + 26) r = rt.int a w line z width st (c + 26) ea ew small lw (omega arith) (omega arith) in
         subst (λ f. Met x (GoesOn x left) tr b (put_value (Int z) width s).0 (put_value (Int z) width s).1 f) (sym (then_none r)) (record {
           world = p.world ∙ ap (λ v. traced v (map put_byte bytes)) wd ∙ ap (λ t. record x.world { trace = t }) (append_assoc x.world.trace tr (map put_byte bytes));
           cost = let q = p.bound in let k : r.cost ≤ b + 120 * (32 + (n + 0)) + 0 = omega arith in k;
@@ -103,48 +103,48 @@ module _ (x : Site) (calls : Calls) (rt : RunTime x calls) where
       later c' lc h = holds_still st.env (λ j lt. refl) lc h
 
 -- a width is tested on its number as a word of the machine
-abbrev raw : ℕ → ℕ
-raw word = (word + 2147483648) % 4294967296
-
-raw_width : (z : ℤ) → is_int z ≡ true → (is_width z ≡ nat_lt (raw (word_of_int z)) 256) × (nat_lt (raw (word_of_int z)) 256 ≡ true → raw (word_of_int z) ≡ unsigned_abs z)
-raw_width (pos n) e =
-    let le : n ≤ 2147483647 = grind (arith, nat_tests, e) in
-    let r : raw (2147483648 + n) ≡ n = omega (arith, le) in
-    (grind (arith, nat_tests, r), λ t. r)
-raw_width (negsuc n) e =
+number_tells : (z : ℤ) → is_int z ≡ true → (is_width z ≡ nat_lt (cast_unsigned w32 z) 256) × (nat_lt (cast_unsigned w32 z) 256 ≡ true → cast_unsigned w32 z ≡ unsigned_abs z)
+number_tells (pos n) e = (grind (arith, nat_tests), λ t. refl)
+number_tells (negsuc n) e =
     let le : suc n ≤ 2147483647 = grind (arith, nat_tests, e) in
-    let r : raw (2147483647 - n) + suc n ≡ 4294967296 = omega (arith, le) in
-    (grind (arith, nat_tests, r, le), λ t. absurd (grind (arith, nat_tests, r, le, t)))
+    let large : nat_lt (4294967296 - suc n) 256 ≡ false = grind (arith, nat_tests, le) in
+    (sym large, λ t. absurd (let q : false ≡ true = sym large ∙ t in grind (arith, q)))
 
 module _ (x : Site) (calls : Calls) (rt : RunTime x calls) where
   -- a width is tested, and then an int is put
-  width_fits : (left a value n line : ℕ) (z y : ℤ) (fits : Bool) (s : State Store) (st : CodeState) (c : ℕ) (tr : Trace) (b : ℕ) → nat_lt (raw (word_of_int y)) 256 ≡ fits → (fits ≡ true → raw (word_of_int y) ≡ unsigned_abs y) → x.low ≤ n → a < n → Holds x left s st c → is_int z ≡ true → st.env a ≡ Some (word_of_int z) → st.env value ≡ Some (word_of_int y) → st.world ≡ traced x.world tr → c ≤ b →
+  width_fits : (left a value n line : ℕ) (z y : ℤ) (fits : Bool) (s : State Store) (st : CodeState) (c : ℕ) (tr : Trace) (b : ℕ) → let w = cast_unsigned w32 y in nat_lt w 256 ≡ fits → (fits ≡ true → w ≡ unsigned_abs y) → x.low ≤ n → a < n → value < n → Holds x left s st c → is_int z ≡ true → is_int y ≡ true → st.env a ≡ Some (word_of_int z) → st.env value ≡ Some (word_of_int y) → st.world ≡ traced x.world tr → c ≤ b →
       Keeps x (GoesOn x left) tr b (((if fits then give (unsigned_abs y) else raise kind.Range line) >>= put_value (Int z)) s) (run_list x.setting calls (width_code x.fixed line value n ++ call put_int (a ∷ n ∷ []) line ∷ []) st c)
-  width_fits left a value n line z y true s st c tr b t r low la h small ea ev wd le =
+  width_fits left a value n line z y true s st c tr b t r low la lv h small whole ea ev wd le =
       let f = fixed_above x low h.fixed in
-      let w = raw (word_of_int y) in
+      let i : HasInt y value n st = record { small = whole; below = lv; is = ev } in
+      let w = cast_unsigned w32 y in
       let p : List Op = call put_int (a ∷ n ∷ []) line ∷ [] in
-      let go = compute_goes {g = x.setting} {calls = calls} n Add value x.fixed.top {st = st} {c = c} ev f.top_is ▸ constant_goes (n + 1) 256 ▸ check_goes LessUnsigned n (n + 1) kind.Range line (set_below (set st n w).env (n + 1) 256 n (omega arith) ∙ set_same st.env n w) (set_same (set st n w).env (n + 1) 256) t ▸ none in
+      let tests : List Op = constant (n + 1) 256 ∷ raise_unless LessUnsigned n (n + 1) kind.Range line ∷ [] in
+      let go = constant_goes {g = x.setting} {calls = calls} (n + 1) 256 {st = set st n w} {c = c + 10} ▸ check_goes LessUnsigned n (n + 1) kind.Range line (set_below (set st n w).env (n + 1) 256 n (omega arith) ∙ set_same st.env n w) (set_same (set st n w).env (n + 1) 256) t ▸ none in
+      let gone = runs_in_order x.setting calls (number_code x.fixed value n) tests st c ∙ ap (λ v. on_run v (run_list x.setting calls tests)) (number_is_given x.setting calls x.fixed y value n st c f i) ∙ go.is in
       let su = set (set st n w) (n + 1) 256 in
       let few : w < 256 = grind (arith, nat_tests, t) in
-      keeps_is (runs_in_order x.setting calls (width_code x.fixed line value n) p st c ∙ ap (λ v. on_run v (run_list x.setting calls p)) go.is)
+      keeps_is (runs_in_order x.setting calls (width_code x.fixed line value n) p st c ∙ ap (λ v. on_run v (run_list x.setting calls p)) gone)
       (keeps_given (unsigned_abs y) (put_value (Int z)) s _
       (int_keeps x calls rt left a n line z (unsigned_abs y) s su (c + 10 + 5 + 13) tr b
       (holds_still su.env (λ j lt. set_below (set st n w).env (n + 1) 256 j (omega arith) ∙ set_below st.env n w j (omega arith)) (omega arith) h) wd (omega arith) small
       (set_below (set st n w).env (n + 1) 256 a (omega arith) ∙ set_below st.env n w a la ∙ ea) (set_below (set st n w).env (n + 1) 256 n (omega arith) ∙ set_same st.env n w ∙ ap Some (r refl)) (let q = r refl in omega arith)))
-  width_fits left a value n line z y false s st c tr b t r low la h small ea ev wd le =
+  width_fits left a value n line z y false s st c tr b t r low la lv h small whole ea ev wd le =
       let f = fixed_above x low h.fixed in
-      let w = raw (word_of_int y) in
+      let i : HasInt y value n st = record { small = whole; below = lv; is = ev } in
+      let w = cast_unsigned w32 y in
       let p : List Op = call put_int (a ∷ n ∷ []) line ∷ [] in
-      let go = compute_goes {g = x.setting} {calls = calls} n Add value x.fixed.top {st = st} {c = c} ev f.top_is ▹ constant_goes (n + 1) 256 ▹ stops [] (check_stops LessUnsigned n (n + 1) kind.Range line (set_below (set st n w).env (n + 1) 256 n (omega arith) ∙ set_same st.env n w) (set_same (set st n w).env (n + 1) 256) t) in
-      keeps_is (runs_in_order x.setting calls (width_code x.fixed line value n) p st c ∙ ap (λ v. on_run v (run_list x.setting calls p)) go.is)
+      let tests : List Op = constant (n + 1) 256 ∷ raise_unless LessUnsigned n (n + 1) kind.Range line ∷ [] in
+      let go = constant_goes {g = x.setting} {calls = calls} (n + 1) 256 {st = set st n w} {c = c + 10} ▹ stops [] (check_stops LessUnsigned n (n + 1) kind.Range line (set_below (set st n w).env (n + 1) 256 n (omega arith) ∙ set_same st.env n w) (set_same (set st n w).env (n + 1) 256) t) in
+      let gone = runs_in_order x.setting calls (number_code x.fixed value n) tests st c ∙ ap (λ v. on_run v (run_list x.setting calls tests)) (number_is_given x.setting calls x.fixed y value n st c f i) ∙ go.is in
+      keeps_is (runs_in_order x.setting calls (width_code x.fixed line value n) p st c ∙ ap (λ v. on_run v (run_list x.setting calls p)) gone)
       (keeps_raise_then kind.Range line (put_value (Int z)) s _ refl wd (omega arith))
 
-  width_keeps : (left a value n line : ℕ) (z y : ℤ) (s : State Store) (st : CodeState) (c : ℕ) (tr : Trace) (b : ℕ) → x.low ≤ n → a < n → Holds x left s st c → is_int z ≡ true → is_int y ≡ true → st.env a ≡ Some (word_of_int z) → st.env value ≡ Some (word_of_int y) → st.world ≡ traced x.world tr → c ≤ b →
+  width_keeps : (left a value n line : ℕ) (z y : ℤ) (s : State Store) (st : CodeState) (c : ℕ) (tr : Trace) (b : ℕ) → x.low ≤ n → a < n → value < n → Holds x left s st c → is_int z ≡ true → is_int y ≡ true → st.env a ≡ Some (word_of_int z) → st.env value ≡ Some (word_of_int y) → st.world ≡ traced x.world tr → c ≤ b →
       Keeps x (GoesOn x left) tr b ((width_of line (Int y) >>= put_value (Int z)) s) (run_list x.setting calls (width_code x.fixed line value n ++ call put_int (a ∷ n ∷ []) line ∷ []) st c)
-  width_keeps left a value n line z y s st c tr b low la h sz sy ea ev wd le =
-      let q = raw_width y sy in
-      width_fits left a value n line z y (is_width y) s st c tr b (sym q.0) (λ t. q.1 (sym q.0 ∙ t)) low la h sz ea ev wd le
+  width_keeps left a value n line z y s st c tr b low la lv h sz sy ea ev wd le =
+      let q = number_tells y sy in
+      width_fits left a value n line z y (is_width y) s st c tr b (sym q.0) (λ t. q.1 (sym q.0 ∙ t)) low la lv h sz sy ea ev wd le
 
 -- Code that does a step which gives nothing, in its place behind the code so far.
 pub record UnitDoes (x : Site) (calls : Calls) (m : Step Store (Unit {0})) (code made : Code) : Type 0 where
@@ -198,7 +198,7 @@ module _ (x : Site) (calls : Calls) (depth : ℕ) (rt : RunTime x calls) where
   shown_does : (line : ℕ) (part : Of r-shown) → is_shown_built declared part ≡ true → (code : Code) → x.low ≤ code.next → UnitDoes x calls (show Store by_copying x.turns depth [] line part) code (code_shown x.fixed x.names line part code)
   shown_does line (Shown m e Absent) b code low =
       let q = both (is_built declared e) true b in
-      let a = expr_does x calls depth line (operators x calls line) e q.0 code low in
+      let a = expressions_do x calls depth line e q.0 code low in
       let first = code_expr x.fixed x.names line e code in
       let p : List Op = call put_int (first.value ∷ x.fixed.zero ∷ []) line ∷ [] in
       let K : Value → Step Store (Unit {0}) = λ v. give 0 >>= put_value v in
@@ -215,10 +215,10 @@ module _ (x : Site) (calls : Calls) (depth : ℕ) (rt : RunTime x calls) where
       }
   shown_does line (Shown m e (Present (Behind colon width))) b code low =
       let q = both (is_built declared e) (is_built declared width) b in
-      let a = expr_does x calls depth line (operators x calls line) e q.0 code low in
+      let a = expressions_do x calls depth line e q.0 code low in
       let first = code_expr x.fixed x.names line e code in
       let le1 = a.more in let av = a.value in
-      let d = expr_does x calls depth line (operators x calls line) width q.1 first.code (omega arith) in
+      let d = expressions_do x calls depth line width q.1 first.code (omega arith) in
       let second = code_expr x.fixed x.names line width first.code in
       let le2 = d.more in
       let W : List Op = width_code x.fixed line second.value second.code.next in
@@ -239,7 +239,7 @@ module _ (x : Site) (calls : Calls) (depth : ℕ) (rt : RunTime x calls) where
             (λ u s2 how2 st2 c2 tr2 b2 g2 w2 le2.
             subst (λ z. Keeps x (GoesOn x left) tr2 (b2 + 0) ((width_of line u >>= put_value (Int g.int)) s2) (on_how z st2 c2 (run_list x.setting calls p))) (sym g2.goes)
             (subst (λ z. Keeps x (GoesOn x left) tr2 (b2 + 0) ((width_of line z >>= put_value (Int g.int)) s2) (run_list x.setting calls p st2 c2)) (sym g2.is)
-            (width_keeps x calls rt left first.value second.value second.code.next line g.int g2.int s2 st2 c2 tr2 (b2 + 0) (omega arith) (omega arith) g2.holds g.small g2.small (g2.kept first.value av ∙ g.result) g2.result w2 (omega arith)))))))))));
+            (width_keeps x calls rt left first.value second.value second.code.next line g.int g2.int s2 st2 c2 tr2 (b2 + 0) (omega arith) (omega arith) d.value g2.holds g.small g2.small (g2.kept first.value av ∙ g.result) g2.result w2 (omega arith)))))))))));
       }
 
   shown_more_does : (line : ℕ) (more : Part (many (lexeme SignComma ⨟ rule r-shown))) → are_shown_built declared more ≡ true → (code : Code) → x.low ≤ code.next → UnitDoes x calls (show_more Store by_copying x.turns depth [] line more) code (code_shown_more x.fixed x.names line more code)

@@ -37,9 +37,8 @@ use Rattle.ir_build.specs.Code.{Tested, where_tested, code_expr, test_expr}
 use Rattle.ir_build.specs.Built.{is_built, is_tested}
 use Rattle.ir_build.proofs.Words.{passes_next, keeps_flow, keeps_is, keeps_more, keeps_paid, keeps_give, keeps_given, keeps_grouped, keeps_change}
 use Rattle.ir_build.proofs.States.{holds_still, Found, find, lies_of}
-use Rattle.ir_build.proofs.Forms.{expr_does}
-use Rattle.ir_build.proofs.Pieces.{operators}
-use Rattle.ir_build.proofs.Conditions.{condition_does}
+use Rattle.ir_build.proofs.Conditions.{expressions_do}
+use Rattle.ir_build.proofs.Conditions.{conditions_do}
 use Rattle.ir_stmt.specs.Leaves.{Leaves}
 use Rattle.ir_stmt.specs.Code.{stored, code_simple}
 use Rattle.ir_stmt.proofs.Stores.{IsOrdered, stored_holds}
@@ -92,7 +91,7 @@ module _ (x : Site) (calls : Calls) (depth : ℕ) (ordered : IsOrdered x.names) 
   assign_does is_inside outside m mp root sign e d b code low =
       let y = variable_of root in
       let f = find y x.names d in
-      let a = expr_does x calls depth m.line (operators x calls m.line) e b code low in
+      let a = expressions_do x calls depth m.line e b code low in
       let made = code_expr x.fixed x.names m.line e code in
       let p = place_of y in
       let K : Place → Step Store Flow = λ place. evaluate Store by_copying x.turns depth [] m.line e >>= λ v. change (λ s. assign_root s place.root v) >> give Next in
@@ -127,7 +126,7 @@ module _ (x : Site) (calls : Calls) (depth : ℕ) (ordered : IsOrdered x.names) 
 
   pub exit_when_does : (outside : ℕ) (m : Mark) (word : Part (lexeme WordExit)) (when : Part (lexeme WordWhen)) (e : Of r-expr) → is_tested declared e ≡ true → (code : Code) → x.low ≤ code.next → StatementDoes x calls true outside (execute_simple Store by_copying x.turns depth [] (Simple m (ExitWhen word when e))) code (code_simple x.fixed x.names outside (Simple m (ExitWhen word when e)) code)
   exit_when_does outside m word when e b code low =
-      let a = condition_does x calls depth m.line e b code low in
+      let a = conditions_do x calls depth m.line e b code low in
       let t = test_expr x.fixed x.names m.line e code in
       let p : List Op = where_tested t (leave outside ∷ []) [] ∷ [] in
       record {

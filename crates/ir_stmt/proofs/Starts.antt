@@ -25,19 +25,20 @@ use Rattle.tu_value.specs.Pieces.{store_code}
 use Rattle.tu_value.specs.Meets.{StoresWord}
 use Rattle.tu_value.specs.declared.pieces.Fixed.{Fixed}
 use Rattle.tu_value.proofs.Leaves.{store_runs}
-use Rattle.ir_build.specs.Keeps.{Named, Site, word_at, Holds, Keeps}
+use Rattle.ir_build.specs.Does.{Does}
+use Rattle.ir_build.specs.Keeps.{Named, Site, word_at, Holds, Keeps, variables_of}
 use Rattle.ir_build.specs.Code.{named, code_expr}
 use Rattle.ir_build.specs.Built.{is_declared, is_built}
 use Rattle.ir_build.proofs.Words.{passes_next, keeps_flow, keeps_is, keeps_more, keeps_give, keeps_grouped, keeps_change}
 use Rattle.ir_build.proofs.States.{find, fixed_above, lies_of}
-use Rattle.ir_build.proofs.Values.{Does, then_none}
-use Rattle.ir_build.proofs.Forms.{both, expr_does}
-use Rattle.ir_build.proofs.Pieces.{operators}
+use Rattle.ir_build.proofs.Values.{then_none}
+use Rattle.ir_build.proofs.Conditions.{expressions_do}
+use Rattle.ir_build.proofs.Forms.{both}
 use Rattle.ir_stmt.specs.Built.{are_new, with_names}
 use Rattle.ir_stmt.specs.Code.{Declared, declare_code, declare_all as code_declare_all, store_all, stored, started}
 use Rattle.ir_stmt.specs.Leaves.{GoesOn, Leaves}
 use Rattle.ir_stmt.proofs.Stores.{IsOrdered, stored_holds}
-use Rattle.ir_stmt.proofs.Items.{at_site, keeps_site, IsNew, AreNew, names_in, AreFine, lie_more, declare_ops, declare_is, declare_next, declare_fine, declares_then, stores_then}
+use Rattle.ir_stmt.proofs.Items.{at_site, keeps_site, IsNew, AreNew, AreFine, lie_more, declare_ops, declare_is, declare_next, declare_fine, declares_then, stores_then}
 use Rattle.ir_stmt.proofs.Wider.{no_so, AreDeclared, built_wider, names_wider, names_declared}
 
 -- a name that is not among those declared is new
@@ -57,7 +58,7 @@ all_new (y ∷ more) declared e = let q = both (not (is_declared declared y)) (a
 abbrev declared_with : Fixed → Variable → Declared → Declared
 declared_with k y d = record { code = record { ops = d.code.ops ++ declare_code k (length d.names) d.code.next; next = d.code.next + 1 }; names = record { name = y; word = length d.names; at = d.code.next } ∷ d.names }
 
-declare_names : (k : Fixed) (variables : List Variable) (d : Declared) → names_in (code_declare_all k variables d).names ≡ with_names (names_in d.names) variables
+declare_names : (k : Fixed) (variables : List Variable) (d : Declared) → variables_of (code_declare_all k variables d).names ≡ with_names (variables_of d.names) variables
 declare_names k [] d = refl
 declare_names k (y ∷ more) d = declare_names k more (declared_with k y d)
 
@@ -121,7 +122,7 @@ store_next k names value (y ∷ more) code =
 
 module _ (y : Site) (calls : Calls) (depth : ℕ) (ordered : IsOrdered y.names) where
   -- an int goes to each of the variables
-  stores_keep : (left value : ℕ) (z : ℤ) → is_int z ≡ true → (variables : List Variable) → AreDeclared (names_in y.names) variables → (s : State Store) (st : CodeState) (c : ℕ) (tr : Trace) (b : ℕ) → Holds y left s st c → st.env value ≡ Some (word_of_int z) → st.world ≡ traced y.world tr → c ≤ b →
+  stores_keep : (left value : ℕ) (z : ℤ) → is_int z ≡ true → (variables : List Variable) → AreDeclared (variables_of y.names) variables → (s : State Store) (st : CodeState) (c : ℕ) (tr : Trace) (b : ℕ) → Holds y left s st c → st.env value ≡ Some (word_of_int z) → st.world ≡ traced y.world tr → c ≤ b →
       Keeps y (GoesOn y left) tr (b + 7 * length variables) (assign_all Store by_copying y.turns depth [] (Int z) variables s) (run_list y.setting calls (store_ops y.names value variables) st c)
   stores_keep left value z small [] all s st c tr b h e w le = keeps_give tt s _ (record { way = refl; holds = h }) w (omega arith)
   stores_keep left value z small (v ∷ more) all s st c tr b h e w le =
@@ -148,16 +149,16 @@ pub record ItemDoes (x : Site) (calls : Calls) (m : Step Store Flow) (declared :
   pub more : d.code.next ≤ made.code.next
   pub longer : length d.names ≤ length made.names
   pub fine : AreFine made.names
-  pub names : names_in made.names ≡ declared
+  pub names : variables_of made.names ≡ declared
   pub keeps : length made.names ≤ x.setting.globals → (s : State Store) (st : CodeState) (c : ℕ) (tr : Trace) (b : ℕ) → Holds (at_site x d) x.turns s st c → st.world ≡ traced x.world tr → c ≤ b →
       Keeps x (Leaves (at_site x made) x.turns false 0) tr b (m s) (run_list x.setting calls ops st c)
 
 module _ (x : Site) (calls : Calls) (depth : ℕ) where
-  pub declaration_does : (variables : List Variable) (d : Declared) → are_new (names_in d.names) variables ≡ true → AreFine d.names →
-      ItemDoes x calls (declare_all Store by_copying x.turns depth [] variables >> give Next) (with_names (names_in d.names) variables) d (code_declare_all x.fixed variables d)
+  pub declaration_does : (variables : List Variable) (d : Declared) → are_new (variables_of d.names) variables ≡ true → AreFine d.names →
+      ItemDoes x calls (declare_all Store by_copying x.turns depth [] variables >> give Next) (with_names (variables_of d.names) variables) d (code_declare_all x.fixed variables d)
   declaration_does variables d fresh fine =
       let made = code_declare_all x.fixed variables d in
-      let new = all_new variables (names_in d.names) fresh in
+      let new = all_new variables (variables_of d.names) fresh in
       let n = declare_length x.fixed variables d in
       let ops = declare_ops x variables d.code.next (length d.names) in
       record {
@@ -173,7 +174,7 @@ module _ (x : Site) (calls : Calls) (depth : ℕ) where
       }
 
   -- a start is evaluated, and goes to each of the variables
-  start_keeps : (line : ℕ) (variables : List Variable) (e : Of r-expr) (d : Declared) (a : Does (at_site x d) calls (evaluate Store by_copying x.turns depth [] line e) d.code (code_expr x.fixed d.names line e d.code)) → IsOrdered d.names → AreDeclared (names_in d.names) variables →
+  start_keeps : (line : ℕ) (variables : List Variable) (e : Of r-expr) (d : Declared) (a : Does (at_site x d) calls (evaluate Store by_copying x.turns depth [] line e) d.code (code_expr x.fixed d.names line e d.code)) → IsOrdered d.names → AreDeclared (variables_of d.names) variables →
       (left : ℕ) (s : State Store) (st : CodeState) (c : ℕ) (tr : Trace) (b : ℕ) → Holds (at_site x d) left s st c → st.world ≡ traced x.world tr → c ≤ b →
       Keeps x (Leaves (at_site x (started x.fixed line variables e d)) x.turns false 0) tr (b + 7 * length variables) (((evaluate Store by_copying x.turns depth [] line e >>= λ v. assign_all Store by_copying x.turns depth [] v variables) >> give Next) s)
       (run_list x.setting calls (a.ops ++ store_ops d.names (code_expr x.fixed d.names line e d.code).value variables) st c)
@@ -199,19 +200,19 @@ module _ (x : Site) (calls : Calls) (depth : ℕ) where
       subst (λ z. Keeps y (Leaves (at_site x done) x.turns false 0) tr2 (b2 + 0) (give Next s2) (on_how z st2 c2 next)) (sym g2.way)
       (keeps_give Next s2 _ (record { way = refl; holds = holds_all (holds_higher done.code.next more g2.holds) }) w2 (omega arith)))))))))))
 
-  pub started_does : (line : ℕ) (variables : List Variable) (e : Of r-expr) (d : Declared) → are_new (names_in d.names) variables ≡ true → is_built (names_in d.names) e ≡ true → AreFine d.names →
-      ItemDoes x calls ((declare_all Store by_copying x.turns depth [] variables >> (evaluate Store by_copying x.turns depth [] line e >>= λ v. assign_all Store by_copying x.turns depth [] v variables)) >> give Next) (with_names (names_in d.names) variables) d (started x.fixed line variables e (code_declare_all x.fixed variables d))
+  pub started_does : (line : ℕ) (variables : List Variable) (e : Of r-expr) (d : Declared) → are_new (variables_of d.names) variables ≡ true → is_built (variables_of d.names) e ≡ true → AreFine d.names →
+      ItemDoes x calls ((declare_all Store by_copying x.turns depth [] variables >> (evaluate Store by_copying x.turns depth [] line e >>= λ v. assign_all Store by_copying x.turns depth [] v variables)) >> give Next) (with_names (variables_of d.names) variables) d (started x.fixed line variables e (code_declare_all x.fixed variables d))
   started_does line variables e d fresh built fine =
       let D = code_declare_all x.fixed variables d in
       let made = code_expr x.fixed D.names line e D.code in
       let done = started x.fixed line variables e D in
-      let new = all_new variables (names_in d.names) fresh in
+      let new = all_new variables (variables_of d.names) fresh in
       let fine_all = declare_fine x variables d new fine in
       let names = declare_names x.fixed variables d in
       let n = declare_length x.fixed variables d in
-      let all : AreDeclared (names_in D.names) variables = subst (λ z. AreDeclared z variables) (sym names) (names_declared variables (names_in d.names)) in
-      let wide : is_built (names_in D.names) e ≡ true = subst (λ z. is_built z e ≡ true) (sym names) (built_wider (names_in d.names) (with_names (names_in d.names) variables) (names_wider variables (names_in d.names)) e built) in
-      let a : Does (at_site x D) calls (evaluate Store by_copying x.turns depth [] line e) D.code made = expr_does (at_site x D) calls depth line (operators (at_site x D) calls line) e wide D.code (omega arith) in
+      let all : AreDeclared (variables_of D.names) variables = subst (λ z. AreDeclared z variables) (sym names) (names_declared variables (variables_of d.names)) in
+      let wide : is_built (variables_of D.names) e ≡ true = subst (λ z. is_built z e ≡ true) (sym names) (built_wider (variables_of d.names) (with_names (variables_of d.names) variables) (names_wider variables (variables_of d.names)) e built) in
+      let a : Does (at_site x D) calls (evaluate Store by_copying x.turns depth [] line e) D.code made = expressions_do (at_site x D) calls depth line e wide D.code (omega arith) in
       let first : List Op = declare_ops x variables d.code.next (length d.names) in
       let S : List Op = store_ops D.names made.value variables in
       let rest : List Op = a.ops ++ S in

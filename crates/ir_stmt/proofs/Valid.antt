@@ -16,9 +16,10 @@ use Rattle.tu_token.specs.Rules.{r-program}
 use Rattle.tu_token.specs.Syntax.{Of}
 use Rattle.tu_tree.specs.Forms.{Program}
 use Rattle.tu_value.specs.Pieces.{fixed_from}
+use Rattle.ir_build.specs.Behind.{AreFrom, IsTidy}
 use Rattle.ir_build.specs.Tokens.{tokens_in}
 use Rattle.ir_build.proofs.Tokens.{tokens_are}
-use Rattle.ir_build.proofs.Fits.{is_and, AreFrom, IsTidy}
+use Rattle.ir_build.proofs.Fits.{is_and}
 use Rattle.ir_build.proofs.Regions.{none_taken}
 use Rattle.ir_stmt.specs.Built.{is_program_built}
 use Rattle.ir_stmt.specs.Unit.{begun, code_program, main_routine, unit_of}

@@ -2,10 +2,9 @@
 use Rattle.std.specs.Prelude.{ℕ, ◌+◌, List, [], ◌∷◌, ◌++◌, length, Option, Some, None}
 use Rattle.grammar.specs.Description.{rule}
 use Rattle.tu_base.specs.declared.kind.Kind.TheVariants as kind
-use Rattle.rv_isa.specs.declared.instr.RegisterOp.TheVariants.{Add}
 use Rattle.rv_isa.specs.declared.instr.Relation.TheVariants.{LessUnsigned}
 use Rattle.ir_form.specs.declared.op.Op.{Op}
-use Rattle.ir_code.specs.Pieces.{call, compute, constant, global, leave, once, raise_unless, repeat, with_op}
+use Rattle.ir_code.specs.Pieces.{call, constant, global, leave, once, raise_unless, repeat, with_op}
 use Rattle.ir_code.specs.declared.code.Code.{Code}
 use Rattle.tu_token.specs.declared.class.Class.TheVariants.{SignColon, SignComma, SignRange, WordElse}
 use Rattle.tu_token.specs.Rules.{r-item, r-block, r-var, r-statement, r-elsif, r-shown, r-expr, ◌⨟◌, many, maybe, t as lexeme}
@@ -17,7 +16,7 @@ use Rattle.tu_tree.specs.Parts.{separated}
 use Rattle.tu_tree.specs.StatementViews.{block_part}
 use Rattle.tu_meaning.specs.Interpreter.{names_of}
 use Rattle.tu_meaning.specs.Values.{Variable, variable_of}
-use Rattle.tu_value.specs.Pieces.{with_piece, store_code}
+use Rattle.tu_value.specs.Pieces.{with_piece, number_code, store_code, unset_code}
 use Rattle.tu_value.specs.declared.pieces.Fixed.{Fixed}
 use Rattle.ir_build.specs.Keeps.{Named}
 use Rattle.ir_build.specs.Code.{Made, with_values, Tested, where_tested, named, code_expr, test_expr}
@@ -37,9 +36,9 @@ inside code = record { ops = []; next = code.next }
 abbrev pub enclosed : Code → (List Op → Op) → Code → Code
 enclosed code operation inner = record { ops = code.ops ++ operation inner.ops ∷ []; next = inner.next }
 
--- the operations that test a width, which is the value n
+-- the operations that test a width, whose number is the value n
 abbrev pub width_code : Fixed → (line value n : ℕ) → List Op
-width_code k line value n = compute n Add value k.top ∷ constant (n + 1) 256 ∷ raise_unless LessUnsigned n (n + 1) kind.Range line ∷ []
+width_code k line value n = number_code k value n ++ constant (n + 1) 256 ∷ raise_unless LessUnsigned n (n + 1) kind.Range line ∷ []
 
 -- the operations where a test holds are done, and then the loop around is left
 abbrev pub with_arm : Tested → Code → Code
@@ -109,7 +108,7 @@ pub record Declared : Type 0 where
 module _ (k : Fixed) where
   -- A variable's address is the value n, and the variable is unset.
   abbrev pub declare_code : (word n : ℕ) → List Op
-  declare_code word n = global n word ∷ store_code n k.zero
+  declare_code word n = global n word ∷ unset_code k n
 
   abbrev pub declare_all : List Variable → Declared → Declared
   declare_all [] d = d

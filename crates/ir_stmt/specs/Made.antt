@@ -1,5 +1,5 @@
 -- What the parts of statements and declarations come to.
-use Rattle.std.specs.Prelude.{ℕ, ◌+◌, List, [], ◌∷◌, map}
+use Rattle.std.specs.Prelude.{ℕ, ◌+◌, List, [], ◌∷◌}
 use Rattle.ir_code.specs.Pieces.{leave, with_op}
 use Rattle.ir_code.specs.declared.code.Code.{Code}
 use Rattle.ir_form.specs.declared.unit.Routine.{Routine}
@@ -32,10 +32,6 @@ declared code names = record { code = code; names = names }
 abbrev pub names_in_item : Of r-item → List Variable
 names_in_item (ItemVar m x) = names_in x
 names_in_item other = []
-
--- the names of variables
-abbrev pub names_only : List Named → List Variable
-names_only names = map (λ n. n.name) names
 
 -- a unit with a main program, behind the routines of the run time
 abbrev pub whole_unit : Code → (globals : ℕ) → Unit

@@ -2,11 +2,12 @@
 ghost use Rattle.std.specs.Prelude.{◌≡◌, ◌+◌, ◌*◌, ◌<◌, ◌≤◌, [], ◌∷◌, None, OnOk, length, true};
 ghost use Rattle.tu_meaning.specs.Interpreter.{names_of};
 ghost use Rattle.tu_value.specs.declared.pieces.Fixed.{Fixed};
+ghost use Rattle.ir_build.specs.Keeps.{variables_of};
 ghost use Rattle.ir_build.specs.Code.{named};
 ghost use Rattle.ir_build.specs.Tokens.{tokens_in};
 ghost use Rattle.ir_stmt.specs.Built.{are_new, names_in};
 ghost use Rattle.ir_stmt.specs.Code.{code_var, declare_all, started, store_all};
-ghost use Rattle.ir_stmt.specs.Made.{declared, names_only};
+ghost use Rattle.ir_stmt.specs.Made.{declared};
 
 use crate::statements::store_in;
 use ir_build::{Names, expression};
@@ -14,7 +15,7 @@ use ir_code::Code;
 use std::alloc::Global;
 use tu_base::{Line, Memory};
 use tu_tree::{Expr, StartForm, Var, VarForm};
-use tu_value::{Fixed, store};
+use tu_value::{Fixed, unset};
 
 // Declares a variable, which is unset.
 fn declare(
@@ -32,7 +33,7 @@ fn declare(
 {
     let word = names.len() as u32;
     let at = code.global(word)?;
-    store(code, at, fixed.zero)?;
+    unset(code, fixed, at)?;
     names.declare(alloc, name, at)
 }
 
@@ -46,7 +47,7 @@ fn declare_listed(
 ) -> Result<(), Memory>
     requires room { code.old.next + 12 * tokens_in listed.now ≤ 4294967295 }
     requires words { length names.old + 12 * tokens_in listed.now ≤ 4294967295 }
-    requires new { are_new (names_only names.old) (names_of listed.now) ≡ true }
+    requires new { are_new (variables_of names.old) (names_of listed.now) ≡ true }
     ensures code { OnOk result
         (declared code.new names.new ≡ declare_all fixed (names_of listed.now) (declared code.old names.old)) }
     ensures next { OnOk result (code.new.next ≤ code.old.next + 12 * tokens_in listed.now) }
@@ -105,7 +106,7 @@ pub fn declaration(
 ) -> Result<(), Memory>
     requires room { code.old.next + 12 * tokens_in var.now ≤ 4294967295 }
     requires words { length names.old + 12 * tokens_in var.now ≤ 4294967295 }
-    requires new { are_new (names_only names.old) (names_in var.now) ≡ true }
+    requires new { are_new (variables_of names.old) (names_in var.now) ≡ true }
     ensures code { OnOk result
         (declared code.new names.new ≡ code_var fixed var.now (declared code.old names.old)) }
     ensures next { OnOk result (code.new.next ≤ code.old.next + 12 * tokens_in var.now) }

@@ -14,11 +14,11 @@ ghost use Rattle.ir_stmt.specs.Code.{code_end, code_shown, code_shown_more, code
 use ir_build::{Names, expression};
 use ir_code::Code;
 use rt_stream::{PUT_INT, PUT_LINE};
-use rv_isa::{RegisterOp, Relation};
+use rv_isa::Relation;
 use std::alloc::Global;
 use tu_base::{Kind, Line, Memory};
 use tu_tree::{Expr, Shown};
-use tu_value::Fixed;
+use tu_value::{Fixed, number};
 
 // Appends what works out a width.
 fn width(
@@ -34,17 +34,17 @@ fn width(
     ensures next { OnOk result (code.new.next ≤ code.old.next + 12 * (tokens_in width.now + 1)) }
 {
     let value = expression(code, alloc, fixed, names, line, width)?;
-    let number = code.compute(RegisterOp::Add, value, fixed.top)?;
+    let size = number(code, fixed, value)?;
     let limit = code.constant(256)?;
     code.raise_unless(
         alloc,
         Relation::LessUnsigned,
-        number,
+        size,
         limit,
         Kind::Range,
         line,
     )?;
-    Ok(number)
+    Ok(size)
 }
 
 // Appends what puts a value.
@@ -64,8 +64,8 @@ fn shown(
     match &shown.width {
         None => code.call(alloc, PUT_INT, &[value, fixed.zero], line),
         Some(least) => {
-            let number = width(code, alloc, fixed, names, line, least.get())?;
-            code.call(alloc, PUT_INT, &[value, number], line)
+            let size = width(code, alloc, fixed, names, line, least.get())?;
+            code.call(alloc, PUT_INT, &[value, size], line)
         }
     }
 }

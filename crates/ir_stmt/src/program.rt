@@ -5,10 +5,11 @@ ghost use Rattle.grammar.specs.Tree.{erase};
 ghost use Rattle.ir_form.specs.Lawful.{IsLawful};
 ghost use Rattle.ir_form.specs.Valid.{IsValid};
 ghost use Rattle.ir_form.specs.Weight.{unit_weight};
+ghost use Rattle.ir_build.specs.Keeps.{variables_of};
 ghost use Rattle.ir_build.specs.Tokens.{tokens_in};
 ghost use Rattle.ir_stmt.specs.Built.{are_new, is_program_built};
 ghost use Rattle.ir_stmt.specs.Code.{code_item};
-ghost use Rattle.ir_stmt.specs.Made.{declared, names_in_item, names_only, whole_unit};
+ghost use Rattle.ir_stmt.specs.Made.{declared, names_in_item, whole_unit};
 ghost use Rattle.ir_stmt.specs.Unit.{IsKept, unit_of};
 
 use crate::declarations::declaration;
@@ -34,7 +35,7 @@ fn item(
 ) -> Result<(), Memory>
     requires room { code.old.next + 12 * tokens_in item.now ≤ 4294967295 }
     requires words { length names.old + 12 * tokens_in item.now ≤ 4294967295 }
-    requires new { are_new (names_only names.old) (names_in_item item.now) ≡ true }
+    requires new { are_new (variables_of names.old) (names_in_item item.now) ≡ true }
     ensures code { OnOk result
         (declared code.new names.new ≡ code_item fixed item.now (declared code.old names.old)) }
     ensures next { OnOk result (code.new.next ≤ code.old.next + 12 * tokens_in item.now) }

@@ -1,6 +1,7 @@
 -- The body of the routine that puts an int, from its last operations to the first ones.
-use Rattle.std.proofs.Common.{◌≡◌, ℕ, zero, suc, ◌+◌, ◌-◌, ◌*◌, ◌%◌, ◌<◌, ◌≤◌, ◌⊎◌, List, [], ◌∷◌, Bool, true, false, Some, refl, ap, ◌∙◌, subst, length, map, arith}
-use Rattle.std.specs.Prelude.{nat_lt, decimal, replicate}
+use Rattle.std.proofs.Common.{◌≡◌, ℕ, zero, suc, ◌+◌, ◌-◌, ◌*◌, ◌%◌, ◌<◌, ◌≤◌, ◌⊎◌, List, [], ◌∷◌, ◌++◌, Bool, true, false, Some, refl, ap, ◌∙◌, subst, length, map, arith}
+use Rattle.std.specs.Prelude.{nat_lt, not, decimal, replicate, ℤ}
+use Rattle.std.specs.Int.{w32, cast_unsigned}
 use Rattle.std.proofs.Math.ListN.{length-append, length-replicate}
 use Rattle.std.proofs.lemmas.Fmt.{decimal_nonempty, length-decimal-le}
 use Rattle.tu_base.specs.Trace.{Put}
@@ -15,11 +16,17 @@ use Rattle.ir_form.specs.State.{Env, State, Run, next, on_run, with_value}
 use Rattle.ir_form.specs.Plain.{Calls}
 use Rattle.ir_form.specs.Meaning.{run, run_list}
 use Rattle.ir_code.specs.Pieces.{constant, frame, compute, store}
+use Rattle.ir_code.proofs.Running.{runs_in_order}
 use Rattle.ir_code.proofs.Steps.{set, Goes, AllGo, none, ◌▸◌, constant_goes, frame_goes}
+use Rattle.tu_meaning.specs.Operators.{is_int}
+use Rattle.tu_value.specs.Meets.{HasFixed, HasInt}
+use Rattle.tu_value.specs.Pieces.{fixed_from, number_code}
+use Rattle.tu_value.specs.Words.{word_of_int}
+use Rattle.tu_value.proofs.Leaves.{number_is_given}
 use Rattle.rt_stream.specs.Laws.{padded}
-use Rattle.rt_stream.specs.Routines.{magnitude_op, digits_op, sign_op, blanks_op, text_ops, put_int_ops}
+use Rattle.rt_stream.specs.Routines.{magnitude_op, digits_op, sign_op, blanks_op, text_ops, number_ops, put_int_ops}
 use Rattle.rt_stream.proofs.Pieces.{below_one, compute_gives, byte_goes, first_gives, other_gives, put_goes, lent}
-use Rattle.rt_stream.proofs.Buffer.{is_below, not_below, Known, known_with, Lies, lies_next, open_next, bytes_seen, bytes_set}
+use Rattle.rt_stream.proofs.Buffer.{not_below, Known, known_with, Lies, lies_next, open_next, bytes_seen, bytes_set}
 use Rattle.rt_stream.proofs.Rounds.{Comes}
 use Rattle.rt_stream.proofs.Digits.{digits_come}
 use Rattle.rt_stream.proofs.Blanks.{blanks_come}
@@ -54,6 +61,22 @@ module _ (g : Setting) (calls : Calls) {base : ℕ} {before : Cells} {bytes : Li
   after_set : (op : Op) (rest : List Op) (m : ℕ) (st : State) (c x w price : ℕ) → Goes g calls op st c (set st x w) (c + price) → Done base before bytes m (set st x w) (c + price) (run_list g calls rest (set st x w) (c + price)) → Done base before bytes (m + price) st c (run_list g calls (op ∷ rest) st c)
   after_set op rest m st c x w price go d = after op rest m (m + price) st c (with_value st.env x w) st.cells st.others (c + price) go d (omega arith) (omega arith) (omega arith)
 
+  after_number : (z : ℤ) (rest : List Op) (m : ℕ) (st : State) (c : ℕ) → st.env 0 ≡ Some (word_of_int z) → st.env 6 ≡ Some 0 → st.env 7 ≡ Some 2147483648 → is_int z ≡ true → (let su : State = set st 10 (cast_unsigned w32 z) in Done base before bytes m su (c + 10) (run_list g calls rest su (c + 10))) → Done base before bytes (m + 10) st c (run_list g calls (number_code (fixed_from 6) 0 10 ++ rest) st c)
+  after_number z rest m st c w e t small d =
+      let h : HasFixed (fixed_from 6) 10 st = record { zero_below = omega arith; zero_is = e; top_below = omega arith; top_is = t } in
+      let i : HasInt z 0 10 st = record { small = small; below = omega arith; is = w } in
+      record {
+        env = d.env;
+        cells = d.cells;
+        others = d.others;
+        cost = d.cost;
+        is = runs_in_order g calls (number_code (fixed_from 6) 0 10) rest st c ∙ ap (λ r. on_run r (run_list g calls rest)) (number_is_given g calls (fixed_from 6) z 0 10 st c h i) ∙ d.is;
+        same = d.same;
+        paid = let w : st.others + (c + 10) ≤ d.others + d.cost = d.paid in omega arith;
+        begun = let w : c + 10 ≤ d.cost = d.begun in omega arith;
+        bound = let w : d.cost ≤ c + 10 + m = d.bound in omega arith;
+      }
+
   after_loop : (op : Op) (rest : List Op) {word width value : ℕ} {text : List ℕ} {used m : ℕ} (n most : ℕ) (st : State) (c : ℕ) (p : Comes word width base before value text used m st c (run g calls op st c)) → (let su : State = record st { env = p.env; cells = p.cells; others = p.others } in Done base before bytes n su p.cost (run_list g calls rest su p.cost)) → m + n ≤ most → Done base before bytes most st c (run_list g calls (op ∷ rest) st c)
   after_loop op rest {m = m} n most st c p d le = after op rest n most st c p.env p.cells p.others p.cost (record { is = p.is }) d p.paid p.begun (let w : p.cost ≤ c + m = p.bound in omega arith)
 
@@ -65,10 +88,10 @@ abbrev pub signed : Bool → List ℕ → List ℕ
 signed true text = 45 ∷ text
 signed false text = text
 
--- the magnitude of the int with such a word
+-- the magnitude of a number of the machine
 abbrev pub magnitude : Bool → ℕ → ℕ
-magnitude true word = 2147483648 - word
-magnitude false word = word - 2147483648
+magnitude true word = 4294967296 - word
+magnitude false word = word
 
 module _ (g : Setting) (calls : Calls) (word width base : ℕ) (before : Cells) (low : 65536 ≤ base) (fits : base + 260 ≤ end_at g) (high : base + 256 ≤ 4294967295) (narrow : width ≤ 255) where
   text_put : (at : ℕ) (bytes : List ℕ) (st : State) (c : ℕ) → length bytes ≤ 256 → Known word width (base + 256) st.env → st.env 25 ≡ Some at → Lies base before at bytes st.cells → Done base before bytes 24 st c (run_list g calls text_ops st c)
@@ -110,10 +133,10 @@ module _ (g : Setting) (calls : Calls) (word width base : ℕ) (before : Cells) 
   abbrev sign_most : List ℕ → ℕ
   sign_most text = 124 + 46 * (width - length text)
 
-  sign_put : (below : Bool) (a : ℕ) (text : List ℕ) (st : State) (c : ℕ) → nat_lt word 2147483648 ≡ below → 1 ≤ length text → length text ≤ 10 → 255 ≤ st.others → Known word width (base + 256) st.env → st.env 19 ≡ Some a → Lies base before a text st.cells → Done base before (padded width (signed below text)) (sign_most (signed below text)) st c (run_list g calls (sign_op ∷ compute 22 Sub 3 1 ∷ blanks_op ∷ text_ops) st c)
+  sign_put : (below : Bool) (a : ℕ) (text : List ℕ) (st : State) (c : ℕ) → nat_lt word 2147483648 ≡ not below → 1 ≤ length text → length text ≤ 10 → 255 ≤ st.others → Known word width (base + 256) st.env → st.env 19 ≡ Some a → Lies base before a text st.cells → Done base before (padded width (signed below text)) (sign_most (signed below text)) st c (run_list g calls (sign_op ∷ compute 22 Sub 3 1 ∷ blanks_op ∷ text_ops) st c)
   sign_put false a text st c t some' few enough known e l =
       after g calls sign_op (compute 22 Sub 3 1 ∷ blanks_op ∷ text_ops) (82 + 46 * (width - length text)) (sign_most text) st c (with_value st.env 21 a) st.cells st.others (c + 13 + 12)
-      (other_gives LessUnsigned 0 2 word 2147483648 (compute 20 Sub 19 5 ∷ store one_byte 20 8 ∷ []) 20 [] 19 21 a known.word_is known.top t none e)
+      (first_gives LessUnsigned 10 7 word 2147483648 [] 19 (compute 20 Sub 19 5 ∷ store one_byte 20 8 ∷ []) 20 21 a known.word_is known.top t none e)
       (blanks_put a text (set st 21 a) (c + 13 + 12) some' (omega arith) enough (known_with 21 a (omega arith) known) refl l)
       (omega arith) (omega arith) (omega arith)
   sign_put true zero text st c t some' few enough known e l = let size : 0 + length text ≡ base + 256 = l.size in absurd (omega arith)
@@ -125,13 +148,13 @@ module _ (g : Setting) (calls : Calls) (word width base : ℕ) (before : Cells) 
       let cells : Cells = with_byte st.cells a 45 in
       let env : Env = with_value (with_value st.env 20 a) 21 a in
       after g calls sign_op (compute 22 Sub 3 1 ∷ blanks_op ∷ text_ops) (82 + 46 * (width - suc (length text))) (sign_most (45 ∷ text)) st c env cells st.others (c + 13 + 10 + 7 + 12)
-      (first_gives LessUnsigned 0 2 word 2147483648 (compute 20 Sub 19 5 ∷ store one_byte 20 8 ∷ []) 20 [] 19 21 a known.word_is known.top t
+      (other_gives LessUnsigned 10 7 word 2147483648 [] 19 (compute 20 Sub 19 5 ∷ store one_byte 20 8 ∷ []) 20 21 a known.word_is known.top t
       (compute_gives 20 Sub 19 5 (a + 1) 1 a (e ∙ ap Some s) known.one (below_one a (omega arith)) ▸ byte_goes 20 8 a 45 refl known.minus (open_next above next_l) (omega arith) ▸ none) refl)
       (blanks_put a (45 ∷ text) (record st { env = env; cells = cells }) (c + 13 + 10 + 7 + 12) (omega arith) (omega arith) enough
       (known_with 21 a (omega arith) (known_with 20 a (omega arith) known)) refl (lies_next 45 above next_l))
       (omega arith) (omega arith) (omega arith)
 
-  digits_put : (below : Bool) (n : ℕ) (st : State) (c : ℕ) → nat_lt word 2147483648 ≡ below → n ≤ 2147483647 → 265 ≤ st.others → Known word width (base + 256) st.env → st.env 12 ≡ Some n → Lies base before (base + 256) [] st.cells → Done base before (padded width (signed below (decimal n))) (908 + sign_most (signed below (decimal n))) st c (run_list g calls (digits_op ∷ sign_op ∷ compute 22 Sub 3 1 ∷ blanks_op ∷ text_ops) st c)
+  digits_put : (below : Bool) (n : ℕ) (st : State) (c : ℕ) → nat_lt word 2147483648 ≡ not below → n ≤ 2147483647 → 265 ≤ st.others → Known word width (base + 256) st.env → st.env 12 ≡ Some n → Lies base before (base + 256) [] st.cells → Done base before (padded width (signed below (decimal n))) (908 + sign_most (signed below (decimal n))) st c (run_list g calls (digits_op ∷ sign_op ∷ compute 22 Sub 3 1 ∷ blanks_op ∷ text_ops) st c)
   digits_put below n st c t small enough known e l =
       let p = digits_come g calls word width base before high n st c small (omega arith) e known l in
       let left : st.others ≤ p.others + 10 = p.left in
@@ -139,64 +162,61 @@ module _ (g : Setting) (calls : Calls) (word width base : ℕ) (before : Cells) 
       (sign_put below p.at (decimal n) (record st { env = p.env; cells = p.cells; others = p.others }) p.cost t (decimal_nonempty n (omega arith)) (length-decimal-le 10 n (omega arith) (omega arith) (omega arith)) (omega arith) p.known p.first p.lies)
       (omega arith)
 
-  below_value : (v : ℕ) → v ≤ 2147483648 → 2147483648 - v ≤ 2147483647 → (2147483648 + (4294967296 - v)) % 4294967296 ≡ 2147483648 - v
-  below_value v le lt = omega arith
+  negative_value : (v : ℕ) → 1 ≤ v → v ≤ 4294967295 → (0 + (4294967296 - v)) % 4294967296 ≡ 4294967296 - v
+  negative_value v le lt = omega arith
 
-  above_value : (v : ℕ) → 2147483648 ≤ v → v ≤ 4294967295 → (v + 2147483648) % 4294967296 ≡ v - 2147483648
-  above_value v le lt = omega arith
-
-  magnitude_put : (below : Bool) (st : State) (c : ℕ) → nat_lt word 2147483648 ≡ below → word ≤ 4294967295 → magnitude below word ≤ 2147483647 → 265 ≤ st.others → Known word width (base + 256) st.env → Lies base before (base + 256) [] st.cells → Done base before (padded width (signed below (decimal (magnitude below word)))) (943 + sign_most (signed below (decimal (magnitude below word)))) st c (run_list g calls (magnitude_op ∷ digits_op ∷ sign_op ∷ compute 22 Sub 3 1 ∷ blanks_op ∷ text_ops) st c)
+  magnitude_put : (below : Bool) (st : State) (c : ℕ) → nat_lt word 2147483648 ≡ not below → word ≤ 4294967295 → magnitude below word ≤ 2147483647 → 265 ≤ st.others → Known word width (base + 256) st.env → Lies base before (base + 256) [] st.cells → Done base before (padded width (signed below (decimal (magnitude below word)))) (943 + sign_most (signed below (decimal (magnitude below word)))) st c (run_list g calls (magnitude_op ∷ digits_op ∷ sign_op ∷ compute 22 Sub 3 1 ∷ blanks_op ∷ text_ops) st c)
   magnitude_put true st c t fits small enough known l =
-      let n : ℕ = 2147483648 - word in
-      let env : Env = with_value (with_value st.env 10 n) 12 n in
-      let lt : word < 2147483648 = is_below word 2147483648 t in
-      after g calls magnitude_op (digits_op ∷ sign_op ∷ compute 22 Sub 3 1 ∷ blanks_op ∷ text_ops) (908 + sign_most (45 ∷ decimal n)) (943 + sign_most (45 ∷ decimal n)) st c env st.cells st.others (c + 13 + 10 + 12)
-      (first_gives LessUnsigned 0 2 word 2147483648 (compute 10 Sub 2 0 ∷ []) 10 (compute 11 Sub 0 2 ∷ []) 11 12 n known.word_is known.top t
-      (compute_gives 10 Sub 2 0 2147483648 word n known.top known.word_is (below_value word (omega arith) small) ▸ none) refl)
-      (digits_put true n (record st { env = env }) (c + 13 + 10 + 12) t small enough (known_with 12 n (omega arith) (known_with 10 n (omega arith) known)) refl l)
-      (omega arith) (omega arith) (omega arith)
-  magnitude_put false st c t fits small enough known l =
-      let n : ℕ = word - 2147483648 in
+      let n : ℕ = 4294967296 - word in
       let env : Env = with_value (with_value st.env 11 n) 12 n in
       let le : 2147483648 ≤ word = not_below word 2147483648 t in
-      after g calls magnitude_op (digits_op ∷ sign_op ∷ compute 22 Sub 3 1 ∷ blanks_op ∷ text_ops) (908 + sign_most (decimal n)) (943 + sign_most (decimal n)) st c env st.cells st.others (c + 13 + 10 + 12)
-      (other_gives LessUnsigned 0 2 word 2147483648 (compute 10 Sub 2 0 ∷ []) 10 (compute 11 Sub 0 2 ∷ []) 11 12 n known.word_is known.top t
-      (compute_gives 11 Sub 0 2 word 2147483648 n known.word_is known.top (above_value word le fits) ▸ none) refl)
-      (digits_put false n (record st { env = env }) (c + 13 + 10 + 12) t small enough (known_with 12 n (omega arith) (known_with 11 n (omega arith) known)) refl l)
+      after g calls magnitude_op (digits_op ∷ sign_op ∷ compute 22 Sub 3 1 ∷ blanks_op ∷ text_ops) (908 + sign_most (45 ∷ decimal n)) (943 + sign_most (45 ∷ decimal n)) st c env st.cells st.others (c + 13 + 10 + 12)
+      (other_gives LessUnsigned 10 7 word 2147483648 [] 10 (compute 11 Sub 6 10 ∷ []) 11 12 n known.word_is known.top t
+      (compute_gives 11 Sub 6 10 0 word n known.none known.word_is (negative_value word (omega arith) fits) ▸ none) refl)
+      (digits_put true n (record st { env = env }) (c + 13 + 10 + 12) t small enough (known_with 12 n (omega arith) (known_with 11 n (omega arith) known)) refl l)
+      (omega arith) (omega arith) (omega arith)
+  magnitude_put false st c t fits small enough known l =
+      let env : Env = with_value st.env 12 word in
+      after g calls magnitude_op (digits_op ∷ sign_op ∷ compute 22 Sub 3 1 ∷ blanks_op ∷ text_ops) (908 + sign_most (decimal word)) (943 + sign_most (decimal word)) st c env st.cells st.others (c + 13 + 12)
+      (first_gives LessUnsigned 10 7 word 2147483648 [] 10 (compute 11 Sub 6 10 ∷ []) 11 12 word known.word_is known.top t none known.word_is)
+      (digits_put false word (record st { env = env }) (c + 13 + 12) t small enough (known_with 12 word (omega arith) known) refl l)
       (omega arith) (omega arith) (omega arith)
 
 -- The whole body, with an empty buffer in the frame.
-pub body_put : (g : Setting) (calls : Calls) (word width : ℕ) (before : Cells) (below : Bool) (st : State) (c : ℕ) → 65536 ≤ st.frame → st.frame + 260 ≤ end_at g → end_at g ≤ 4294967296 → width ≤ 255 → nat_lt word 2147483648 ≡ below → word ≤ 4294967295 → magnitude below word ≤ 2147483647 → 265 ≤ st.others → st.env 0 ≡ Some word → st.env 1 ≡ Some width → Lies st.frame before (st.frame + 256) [] st.cells → let text = signed below (decimal (magnitude below word)) in Done st.frame before (padded width text) (1109 + 46 * (width - length text)) st c (run_list g calls put_int_ops st c)
-body_put g calls word width before below st c low fits top narrow t small lt enough e f l =
+pub body_put : (g : Setting) (calls : Calls) (z : ℤ) (width : ℕ) (before : Cells) (below : Bool) (st : State) (c : ℕ) → let word = cast_unsigned w32 z in 65536 ≤ st.frame → st.frame + 260 ≤ end_at g → end_at g ≤ 4294967296 → width ≤ 255 → is_int z ≡ true → nat_lt word 2147483648 ≡ not below → word ≤ 4294967295 → magnitude below word ≤ 2147483647 → 265 ≤ st.others → st.env 0 ≡ Some (word_of_int z) → st.env 1 ≡ Some width → Lies st.frame before (st.frame + 256) [] st.cells → let text = signed below (decimal (magnitude below word)) in Done st.frame before (padded width text) (1119 + 46 * (width - length text)) st c (run_list g calls put_int_ops st c)
+body_put g calls z width before below st c low fits top narrow is t small lt enough e f l =
+    let word : ℕ = cast_unsigned w32 z in
     let text : List ℕ = signed below (decimal (magnitude below word)) in
     let m : ℕ = 943 + (124 + 46 * (width - length text)) in
-    let r8 : List Op = magnitude_op ∷ digits_op ∷ sign_op ∷ compute 22 Sub 3 1 ∷ blanks_op ∷ text_ops in
+    let r8 : List Op = number_code (fixed_from 6) 0 10 ++ number_ops in
     let r7 : List Op = constant 9 32 ∷ r8 in
     let r6 : List Op = constant 8 45 ∷ r7 in
-    let r5 : List Op = constant 7 0 ∷ r6 in
-    let r4 : List Op = constant 6 48 ∷ r5 in
+    let r5 : List Op = constant 7 2147483648 ∷ r6 in
+    let r4 : List Op = constant 6 0 ∷ r5 in
     let r3 : List Op = constant 5 1 ∷ r4 in
     let r2 : List Op = constant 4 10 ∷ r3 in
     let r1 : List Op = frame 3 64 ∷ r2 in
-    let s1 : State = set st 2 2147483648 in
+    let s1 : State = set st 2 48 in
     let s2 : State = set s1 3 (st.frame + 256) in
     let s3 : State = set s2 4 10 in
     let s4 : State = set s3 5 1 in
-    let s5 : State = set s4 6 48 in
-    let s6 : State = set s5 7 0 in
+    let s5 : State = set s4 6 0 in
+    let s6 : State = set s5 7 2147483648 in
     let s7 : State = set s6 8 45 in
     let s8 : State = set s7 9 32 in
-    let known : Known word width (st.frame + 256) s8.env = record { word_is = e; width_is = f; top = refl; end_is = refl; ten = refl; one = refl; glyph = refl; none = refl; minus = refl; blank = refl } in
-    let d = magnitude_put g calls word width st.frame before low fits (omega arith) narrow below s8 (c + 5 + 7 + 5 + 5 + 5 + 5 + 5 + 5) t small lt enough known l in
-    looser (m + 5 + 5 + 5 + 5 + 5 + 5 + 7 + 5) (omega arith)
-    (after_set g calls (constant 2 2147483648) r1 (m + 5 + 5 + 5 + 5 + 5 + 5 + 7) st c 2 2147483648 5 (constant_goes 2 2147483648)
-    (after_set g calls (frame 3 64) r2 (m + 5 + 5 + 5 + 5 + 5 + 5) s1 (c + 5) 3 (st.frame + 256) 7 (frame_goes 3 64)
-    (after_set g calls (constant 4 10) r3 (m + 5 + 5 + 5 + 5 + 5) s2 (c + 5 + 7) 4 10 5 (constant_goes 4 10)
-    (after_set g calls (constant 5 1) r4 (m + 5 + 5 + 5 + 5) s3 (c + 5 + 7 + 5) 5 1 5 (constant_goes 5 1)
-    (after_set g calls (constant 6 48) r5 (m + 5 + 5 + 5) s4 (c + 5 + 7 + 5 + 5) 6 48 5 (constant_goes 6 48)
-    (after_set g calls (constant 7 0) r6 (m + 5 + 5) s5 (c + 5 + 7 + 5 + 5 + 5) 7 0 5 (constant_goes 7 0)
-    (after_set g calls (constant 8 45) r7 (m + 5) s6 (c + 5 + 7 + 5 + 5 + 5 + 5) 8 45 5 (constant_goes 8 45)
-    (after_set g calls (constant 9 32) r8 m s7 (c + 5 + 7 + 5 + 5 + 5 + 5 + 5) 9 32 5 (constant_goes 9 32) d))))))))
+    let s9 : State = set s8 10 word in
+    let known : Known word width (st.frame + 256) s9.env = record { width_is = f; glyph = refl; end_is = refl; ten = refl; one = refl; none = refl; top = refl; minus = refl; blank = refl; word_is = refl } in
+    let d = magnitude_put g calls word width st.frame before low fits (omega arith) narrow below s9 (c + 5 + 7 + 5 + 5 + 5 + 5 + 5 + 5 + 10) t small lt enough known l in
+    looser (m + 10 + 5 + 5 + 5 + 5 + 5 + 5 + 7 + 5) (omega arith)
+    (after_set g calls (constant 2 48) r1 (m + 10 + 5 + 5 + 5 + 5 + 5 + 5 + 7) st c 2 48 5 (constant_goes 2 48)
+    (after_set g calls (frame 3 64) r2 (m + 10 + 5 + 5 + 5 + 5 + 5 + 5) s1 (c + 5) 3 (st.frame + 256) 7 (frame_goes 3 64)
+    (after_set g calls (constant 4 10) r3 (m + 10 + 5 + 5 + 5 + 5 + 5) s2 (c + 5 + 7) 4 10 5 (constant_goes 4 10)
+    (after_set g calls (constant 5 1) r4 (m + 10 + 5 + 5 + 5 + 5) s3 (c + 5 + 7 + 5) 5 1 5 (constant_goes 5 1)
+    (after_set g calls (constant 6 0) r5 (m + 10 + 5 + 5 + 5) s4 (c + 5 + 7 + 5 + 5) 6 0 5 (constant_goes 6 0)
+    (after_set g calls (constant 7 2147483648) r6 (m + 10 + 5 + 5) s5 (c + 5 + 7 + 5 + 5 + 5) 7 2147483648 5 (constant_goes 7 2147483648)
+    (after_set g calls (constant 8 45) r7 (m + 10 + 5) s6 (c + 5 + 7 + 5 + 5 + 5 + 5) 8 45 5 (constant_goes 8 45)
+    (after_set g calls (constant 9 32) r8 (m + 10) s7 (c + 5 + 7 + 5 + 5 + 5 + 5 + 5) 9 32 5 (constant_goes 9 32)
+    (after_number g calls z number_ops m s8 (c + 5 + 7 + 5 + 5 + 5 + 5 + 5 + 5) e refl refl is d)))))))))
   where
     looser : {base : ℕ} {before : Cells} {bytes : List ℕ} {most : ℕ} {st : State} {c : ℕ} {r : Run} (m : ℕ) → m ≤ most → Done base before bytes m st c r → Done base before bytes most st c r
     looser {most = most} {c = c} m le d = record {

@@ -96,29 +96,29 @@ within_test from words y low high = grind (arith, nat_tests)
 pub range_within : (cells : Cells) (from words : ℕ) (cell : Cell) (y : ℕ) → from ≤ y → y < from + 4 * words → with_range cells from words cell y ≡ cell
 range_within cells from words cell y low high = ap (λ t. if t then cell else cells y) (within_test from words y low high)
 
--- the parameters and constants of the routine
+-- the width, the constants of the routine and the number
 pub record Known (word width end : ℕ) (env : Env) : Type 0 where
-  pub word_is : env 0 ≡ Some word
   pub width_is : env 1 ≡ Some width
-  pub top : env 2 ≡ Some 2147483648
+  pub glyph : env 2 ≡ Some 48
   pub end_is : env 3 ≡ Some end
   pub ten : env 4 ≡ Some 10
   pub one : env 5 ≡ Some 1
-  pub glyph : env 6 ≡ Some 48
-  pub none : env 7 ≡ Some 0
+  pub none : env 6 ≡ Some 0
+  pub top : env 7 ≡ Some 2147483648
   pub minus : env 8 ≡ Some 45
   pub blank : env 9 ≡ Some 32
+  pub word_is : env 10 ≡ Some word
 
-pub known_with : {word width end : ℕ} {env : Env} (x w : ℕ) → 10 ≤ x → Known word width end env → Known word width end (with_value env x w)
+pub known_with : {word width end : ℕ} {env : Env} (x w : ℕ) → 11 ≤ x → Known word width end env → Known word width end (with_value env x w)
 known_with {env = env} x w le k = record {
-  word_is = set_below env x w 0 (omega arith) ∙ k.word_is;
   width_is = set_below env x w 1 (omega arith) ∙ k.width_is;
-  top = set_below env x w 2 (omega arith) ∙ k.top;
+  glyph = set_below env x w 2 (omega arith) ∙ k.glyph;
   end_is = set_below env x w 3 (omega arith) ∙ k.end_is;
   ten = set_below env x w 4 (omega arith) ∙ k.ten;
   one = set_below env x w 5 (omega arith) ∙ k.one;
-  glyph = set_below env x w 6 (omega arith) ∙ k.glyph;
-  none = set_below env x w 7 (omega arith) ∙ k.none;
+  none = set_below env x w 6 (omega arith) ∙ k.none;
+  top = set_below env x w 7 (omega arith) ∙ k.top;
   minus = set_below env x w 8 (omega arith) ∙ k.minus;
   blank = set_below env x w 9 (omega arith) ∙ k.blank;
+  word_is = set_below env x w 10 (omega arith) ∙ k.word_is;
 }

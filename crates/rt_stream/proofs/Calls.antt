@@ -1,6 +1,7 @@
 -- Calls of the routines.
 use Rattle.std.proofs.Common.{◌≡◌, ℕ, suc, ◌+◌, ◌-◌, ◌*◌, ◌<◌, ◌≤◌, ◌⊎◌, inl, inr, List, [], ◌∷◌, Bool, true, false, Some, refl, sym, ap, ◌∙◌, subst, length, map, arith}
-use Rattle.std.specs.Prelude.{nat_lt, decimal, replicate, slice_get, pos, negsuc}
+use Rattle.std.specs.Prelude.{nat_le, nat_lt, not, decimal, replicate, slice_get, ℤ, pos, negsuc}
+use Rattle.std.specs.Int.{w32, cast_unsigned}
 use Rattle.std.proofs.Math.ListN.{length-append, length-replicate}
 use Rattle.std.proofs.lemmas.Bool.Decides.{nat_tests}
 use Rattle.tu_base.specs.Trace.{Put}
@@ -13,6 +14,8 @@ use Rattle.ir_form.specs.Plain.{Calls}
 use Rattle.ir_form.specs.Meaning.{run_list, ended_run}
 use Rattle.ir_form.specs.Units.{Head, no_values, opened, enters, returned_run, body_of, head_of, calls_to, calls_within}
 use Rattle.ir_code.proofs.Steps.{AllGo, none, ◌▸◌, constant_goes, frame_goes}
+use Rattle.tu_meaning.specs.Operators.{is_int}
+use Rattle.tu_value.specs.Words.{word_of_int}
 use Rattle.rt_stream.specs.Laws.{padded, frame_of, HasRoom, Puts, put_int_rounds, put_int_most, put_line_most, PutIntComputes, PutIntIsCheap, PutLineComputes}
 use Rattle.rt_stream.specs.Routines.{put_int_ops, put_int_routine, put_line_ops, put_line_routine}
 use Rattle.rt_stream.proofs.Pieces.{byte_goes, put_goes, lent}
@@ -69,41 +72,44 @@ empty_buffer g st =
 abbrev int_values : (word width : ℕ) → Env
 int_values word width = with_value (with_value no_values 0 word) 1 width
 
-module _ (g : Setting) (rs : List Routine) (n k a b line word width : ℕ) (st : State) (c : ℕ) where
-  int_called : slice_get rs k ≡ Some put_int_routine → st.env a ≡ Some word → st.env b ≡ Some width → calls_within g rs (suc n) k (a ∷ b ∷ []) [] line st c ≡ returned_run (head_of put_int_routine) [] st (ended_run [] (run_list g (calls_within g rs n) put_int_ops (entered g put_int_routine (int_values word width) st) c))
+module _ (g : Setting) (rs : List Routine) (n k a b line : ℕ) (z : ℤ) (width : ℕ) (st : State) (c : ℕ) where
+  int_called : slice_get rs k ≡ Some put_int_routine → st.env a ≡ Some (word_of_int z) → st.env b ≡ Some width → calls_within g rs (suc n) k (a ∷ b ∷ []) [] line st c ≡ returned_run (head_of put_int_routine) [] st (ended_run [] (run_list g (calls_within g rs n) put_int_ops (entered g put_int_routine (int_values (word_of_int z) width) st) c))
   int_called is e f =
       let h : Head = head_of put_int_routine in
       ap (λ o. calls_to g (calls_within g rs n) o (a ∷ b ∷ []) [] line st c) is
       ∙ ap (λ o. needs o st c (λ ws. on_run (enters g h line st c) (λ su i. on_run (binds h.parameters ws su i) (λ sv j. returned_run h [] st (body_of g (calls_within g rs n) put_int_routine sv j))))) (λ i. listed (e i) (listed (f i) (Some [])))
 
-  int_put : (below : Bool) → end_at g ≤ 4294967296 → slice_get rs k ≡ Some put_int_routine → st.env a ≡ Some word → st.env b ≡ Some width → nat_lt word 2147483648 ≡ below → word ≤ 4294967295 → magnitude below word ≤ 2147483647 → width ≤ 255 → HasRoom put_int_routine st → put_int_rounds ≤ st.others →
+  int_put : (below : Bool) → let word = cast_unsigned w32 z in end_at g ≤ 4294967296 → slice_get rs k ≡ Some put_int_routine → st.env a ≡ Some (word_of_int z) → st.env b ≡ Some width → is_int z ≡ true → nat_lt word 2147483648 ≡ not below → word ≤ 4294967295 → magnitude below word ≤ 2147483647 → width ≤ 255 → HasRoom put_int_routine st → put_int_rounds ≤ st.others →
       let bytes = padded width (signed below (decimal (magnitude below word))) in Puts g put_int_routine bytes (put_int_most bytes) st c (calls_within g rs (suc n) k (a ∷ b ∷ []) [] line st c)
-  int_put below top is e f t small lt narrow room enough =
-      let text : List ℕ = signed below (decimal (magnitude below word)) in
+  int_put below top is e f small t fits lt narrow room enough =
+      let text : List ℕ = signed below (decimal (magnitude below (cast_unsigned w32 z))) in
+      let first : Env = int_values (word_of_int z) width in
       let r : st.rooms + (st.deeper + 128) ≤ 8392704 = room in
-      let d = body_put g (calls_within g rs n) word width (taken_cells g put_int_routine st) below (entered g put_int_routine (int_values word width) st) c (omega arith) (omega arith) top narrow t small lt enough refl refl (empty_buffer g st) in
-      call_puts g put_int_routine (padded width text) (put_int_most (padded width text)) (int_values word width) d.env d.cells d.others d.cost st c (int_called is e f) d.is d.same d.paid d.begun
-      (let w : d.cost ≤ c + (1109 + 46 * (width - length text)) = d.bound in omega (arith, length-append (replicate (width - length text) 32) text, length-replicate {A = ℕ} (width - length text) 32))
+      let d = body_put g (calls_within g rs n) z width (taken_cells g put_int_routine st) below (entered g put_int_routine first st) c (omega arith) (omega arith) top narrow small t fits lt enough refl refl (empty_buffer g st) in
+      call_puts g put_int_routine (padded width text) (put_int_most (padded width text)) first d.env d.cells d.others d.cost st c (int_called is e f) d.is d.same d.paid d.begun
+      (let w : d.cost ≤ c + (1119 + 46 * (width - length text)) = d.bound in omega (arith, length-append (replicate (width - length text) 32) text, length-replicate {A = ℕ} (width - length text) 32))
 
-not_negative : (n : ℕ) → nat_lt (2147483648 + n) 2147483648 ≡ false
-not_negative n = grind (arith, nat_tests)
+small_of : (n : ℕ) → nat_le n 2147483647 ≡ true → n ≤ 2147483647
+small_of n e = grind (arith, nat_tests, e)
 
-is_negative : (n : ℕ) → nat_lt (2147483647 - n) 2147483648 ≡ true
-is_negative n = grind (arith, nat_tests)
+not_negative : (n : ℕ) → n ≤ 2147483647 → nat_lt n 2147483648 ≡ true
+not_negative n le = grind (arith, nat_tests)
 
-above_size : (n : ℕ) → 2147483648 + n - 2147483648 ≡ n
-above_size n = omega arith
+is_negative : (n : ℕ) → suc n ≤ 2147483647 → nat_lt (4294967296 - suc n) 2147483648 ≡ false
+is_negative n le = grind (arith, nat_tests)
 
-below_size : (n : ℕ) → suc n ≤ 2147483647 → 2147483648 - (2147483647 - n) ≡ suc n
-below_size n le = omega arith
+negative_size : (n : ℕ) → suc n ≤ 2147483647 → 4294967296 - (4294967296 - suc n) ≡ suc n
+negative_size n le = omega arith
 
 pub put_int_meets : PutIntComputes
 put_int_meets g rs n k a b line (pos m) width st c top is e f small narrow room enough =
-    subst (λ x. let bytes = padded width (decimal x) in Puts g put_int_routine bytes (put_int_most bytes) st c (calls_within g rs (suc n) k (a ∷ b ∷ []) [] line st c)) (above_size m)
-    (int_put g rs n k a b line (2147483648 + m) width st c false top is e f (not_negative m) (omega arith) (omega arith) narrow room enough)
+    let le : m ≤ 2147483647 = small_of m small in
+    int_put g rs n k a b line (pos m) width st c false top is e f small (not_negative m le) (omega arith) le narrow room enough
 put_int_meets g rs n k a b line (negsuc m) width st c top is e f small narrow room enough =
-    subst (λ x. let bytes = padded width (45 ∷ decimal x) in Puts g put_int_routine bytes (put_int_most bytes) st c (calls_within g rs (suc n) k (a ∷ b ∷ []) [] line st c)) (below_size m small)
-    (int_put g rs n k a b line (2147483647 - m) width st c true top is e f (is_negative m) (omega arith) (let le : suc m ≤ 2147483647 = small in omega arith) narrow room enough)
+    let le : suc m ≤ 2147483647 = small_of (suc m) small in
+    let size = negative_size m le in
+    subst (λ x. let bytes = padded width (45 ∷ decimal x) in Puts g put_int_routine bytes (put_int_most bytes) st c (calls_within g rs (suc n) k (a ∷ b ∷ []) [] line st c)) size
+    (int_put g rs n k a b line (negsuc m) width st c true top is e f small (is_negative m le) (omega arith) (omega (arith, size)) narrow room enough)
 
 pub put_int_is_cheap : PutIntIsCheap
 put_int_is_cheap bytes = omega arith

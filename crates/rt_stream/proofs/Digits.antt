@@ -50,17 +50,17 @@ round_state st n a = set (record (set (set (set st 15 (n % 10)) 16 (48 + n % 10)
 module _ (g : Setting) (calls : Calls) (word width end : ℕ) where
   round_leaves : (n a : ℕ) (st : State) (c : ℕ) → Known word width end st.env → st.env 13 ≡ Some n → st.env 14 ≡ Some (a + 1) → a < 4294967295 → is_open (st.cells a) ≡ true → (n / 10 == 0) ≡ true → AllLeave g calls digit_ops st c (a ∷ []) (round_state st n a) (c + 10 + 10 + 10 + 7 + 10 + 13 + 7 + 12)
   round_leaves n a st c k e f lt o t =
-      compute_gives 15 Remu 13 4 n 10 (n % 10) e k.ten refl ▷ compute_gives 16 Add 15 6 (n % 10) 48 (48 + n % 10) refl k.glyph (glyph_word n)
+      compute_gives 15 Remu 13 4 n 10 (n % 10) e k.ten refl ▷ compute_gives 16 Add 15 2 (n % 10) 48 (48 + n % 10) refl k.glyph (glyph_word n)
       ▷ compute_gives 17 Sub 14 5 (a + 1) 1 a f k.one (below_one a lt) ▷ byte_goes 17 16 a (48 + n % 10) refl refl o (glyph_small n)
       ▷ compute_gives 18 Divu 13 4 n 10 (n / 10) e k.ten refl
-      ▷ leaves [] (first_leaves Equal 18 7 (n / 10) 0 (leave_with 17 ∷ []) refl k.none t (leaves [] (leave_goes 17 a refl)))
+      ▷ leaves [] (first_leaves Equal 18 6 (n / 10) 0 (leave_with 17 ∷ []) refl k.none t (leaves [] (leave_goes 17 a refl)))
 
   round_goes : (n a : ℕ) (st : State) (c : ℕ) → Known word width end st.env → st.env 13 ≡ Some n → st.env 14 ≡ Some (a + 1) → a < 4294967295 → is_open (st.cells a) ≡ true → (n / 10 == 0) ≡ false → AllGo g calls digit_ops st c (round_state st n a) (c + 10 + 10 + 10 + 7 + 10 + 13 + 0)
   round_goes n a st c k e f lt o t =
-      compute_gives 15 Remu 13 4 n 10 (n % 10) e k.ten refl ▸ compute_gives 16 Add 15 6 (n % 10) 48 (48 + n % 10) refl k.glyph (glyph_word n)
+      compute_gives 15 Remu 13 4 n 10 (n % 10) e k.ten refl ▸ compute_gives 16 Add 15 2 (n % 10) 48 (48 + n % 10) refl k.glyph (glyph_word n)
       ▸ compute_gives 17 Sub 14 5 (a + 1) 1 a f k.one (below_one a lt) ▸ byte_goes 17 16 a (48 + n % 10) refl refl o (glyph_small n)
       ▸ compute_gives 18 Divu 13 4 n 10 (n / 10) e k.ten refl
-      ▸ other_stays Equal 18 7 (n / 10) 0 (leave_with 17 ∷ []) refl k.none t ▸ none
+      ▸ other_stays Equal 18 6 (n / 10) 0 (leave_with 17 ∷ []) refl k.none t ▸ none
 
 abbrev digit_cycle : Cycle
 digit_cycle = cycle_with (13 ∷ 14 ∷ []) (18 ∷ 17 ∷ []) (19 ∷ [])

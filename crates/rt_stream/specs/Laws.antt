@@ -1,5 +1,5 @@
 -- What calls of the routines do.
-use Rattle.std.specs.Prelude.{◌≡◌, ℕ, suc, ◌+◌, ◌-◌, ◌*◌, ◌<◌, ◌≤◌, ◌⊎◌, List, [], ◌∷◌, ◌++◌, length, map, replicate, Some, slice_get, ℤ, pos, negsuc, unsigned_abs}
+use Rattle.std.specs.Prelude.{◌≡◌, ℕ, suc, ◌+◌, ◌-◌, ◌*◌, ◌<◌, ◌≤◌, ◌⊎◌, List, [], ◌∷◌, ◌++◌, length, map, replicate, Some, true, slice_get, ℤ}
 use Rattle.std.specs.Fmt.{signed_decimal}
 use Rattle.tu_base.specs.Trace.{Put}
 use Rattle.rv_image.specs.Streams.{traced}
@@ -10,12 +10,9 @@ use Rattle.ir_form.specs.State.{State, Next, Run}
 use Rattle.ir_form.specs.Units.{calls_within}
 use Rattle.ir_form.specs.Valid.{IsValidRoutine}
 use Rattle.ir_form.specs.Weight.{routine_weight}
+use Rattle.tu_meaning.specs.Operators.{is_int}
+use Rattle.tu_value.specs.Words.{word_of_int}
 use Rattle.rt_stream.specs.Routines.{put_int_routine, put_line_routine}
-
--- the word of an int: the number and 2^31
-abbrev pub int_word : ℤ → ℕ
-int_word (pos n) = 2147483648 + n
-int_word (negsuc n) = 2147483647 - n
 
 -- a text with blanks before it up to a width
 abbrev pub padded : (width : ℕ) → List ℕ → List ℕ
@@ -51,7 +48,7 @@ put_int_rounds = 265
 
 -- how much it costs at most to put an int as these bytes, and a line's end
 abbrev pub put_int_most : List ℕ → ℕ
-put_int_most bytes = 1116 + 46 * length bytes
+put_int_most bytes = 1126 + 46 * length bytes
 
 abbrev pub put_line_most : ℕ
 put_line_most = 45
@@ -60,8 +57,8 @@ put_line_most = 45
 abbrev pub PutIntComputes : Type 0
 PutIntComputes =
     (g : Setting) (rs : List Routine) (n k a b line : ℕ) (z : ℤ) (width : ℕ) (st : State) (c : ℕ) →
-    end_at g ≤ 4294967296 → slice_get rs k ≡ Some put_int_routine → st.env a ≡ Some (int_word z) → st.env b ≡ Some width →
-    unsigned_abs z ≤ 2147483647 → width ≤ 255 → HasRoom put_int_routine st → put_int_rounds ≤ st.others →
+    end_at g ≤ 4294967296 → slice_get rs k ≡ Some put_int_routine → st.env a ≡ Some (word_of_int z) → st.env b ≡ Some width →
+    is_int z ≡ true → width ≤ 255 → HasRoom put_int_routine st → put_int_rounds ≤ st.others →
     let bytes = padded width (signed_decimal z) in
     Puts g put_int_routine bytes (put_int_most bytes) st c (calls_within g rs (suc n) k (a ∷ b ∷ []) [] line st c)
 

@@ -2,7 +2,7 @@
 
 ghost use Rattle.std.specs.Prelude.{◌≡◌, [], ◌∷◌, IfOk};
 ghost use Rattle.ir_form.specs.declared.plain.Width.TheVariants.{Byte};
-ghost use Rattle.ir_code.specs.Pieces.{ask, compute, constant, frame, store};
+ghost use Rattle.ir_code.specs.Pieces.{ask, compute, store};
 ghost use Rattle.rt_stream.specs.Pieces.{cycle_of, giving, leave_with};
 ghost use Rattle.rv_isa.specs.declared.service.Service.TheVariants.{PutConsole};
 ghost use Rattle.ir_form.specs.declared.op.Op.TheViews.{If};
@@ -12,20 +12,6 @@ use rv_isa::{RegisterOp, Relation, Service};
 use sqlite_items::Items;
 use std::alloc::Global;
 use tu_base::Memory;
-
-/// A word as it is written.
-pub fn constant(to: u32, word: u32) -> Op
-    ensures { result ≡ constant to word }
-{
-    Op::Plain(Plain::Constant { to, word })
-}
-
-/// The address of a word of the frame.
-pub fn frame(to: u32, word: u64) -> Op
-    ensures { result ≡ frame to word }
-{
-    Op::Plain(Plain::Frame { to, word })
-}
 
 /// What an operation of the machine gives on two values.
 pub fn compute(to: u32, op: RegisterOp, left: u32, right: u32) -> Op

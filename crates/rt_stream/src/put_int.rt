@@ -1,21 +1,25 @@
 // The routine that puts an int in decimal. The text is stored from its end on, byte before byte.
 
-ghost use Rattle.std.specs.Prelude.{◌≡◌, IfOk};
-ghost use Rattle.rt_stream.specs.Routines.{blank_ops, blanks_op, digit_ops, digits_op, magnitude_op, put_int_ops, put_int_routine, sign_op};
+ghost use Rattle.std.specs.Prelude.{◌≡◌, [], ◌∷◌, IfOk};
+ghost use Rattle.ir_form.specs.declared.op.Op.TheViews.{If};
+ghost use Rattle.rv_isa.specs.declared.instr.Relation.TheVariants.{LessUnsigned};
+ghost use Rattle.rt_stream.specs.Routines.{blank_ops, blanks_op, digit_ops, digits_op, magnitude_op, put_int_ops, put_int_routine, sign_op, value_ops};
 
-use crate::build::{branch, compute, constant, cycle, frame, giving, leave, put, store};
+use crate::build::{branch, compute, cycle, giving, leave, put, store};
+use ir_code::Code;
 use ir_form::{Op, Region, Routine};
 use rv_isa::{RegisterOp, Relation};
 use sqlite_items::Items;
 use std::alloc::Global;
 use tu_base::Memory;
+use tu_value::{Fixed, fixed_values, number};
 
 // The values of the routine: its parameters and constants, and what is worked out.
 const WORD: u32 = 0;
 
 const WIDTH: u32 = 1;
 
-const TOP: u32 = 2;
+const DIGIT_ZERO: u32 = 2;
 
 const END: u32 = 3;
 
@@ -23,17 +27,15 @@ const TEN: u32 = 4;
 
 const ONE: u32 = 5;
 
-const DIGIT_ZERO: u32 = 6;
-
-const ZERO: u32 = 7;
+const FIXED: Fixed = Fixed { zero: 6, top: 7 };
 
 const MINUS: u32 = 8;
 
 const BLANK: u32 = 9;
 
-const BELOW_ZERO: u32 = 10;
+const NUMBER: u32 = 10;
 
-const ABOVE_ZERO: u32 = 11;
+const OPPOSITE: u32 = 11;
 
 const MAGNITUDE: u32 = 12;
 
@@ -67,23 +69,29 @@ const TEXT_LENGTH: u32 = 26;
 
 const REPLY: u32 = 27;
 
-// How far the word is from that of 0.
-fn magnitude(alloc: Global) -> Result<Op, Memory>
-    ensures { IfOk result (λ op. op ≡ magnitude_op) }
+// The one region where the number is not below 0, and else the other.
+fn by_sign(alloc: Global, above: Region, below: Region, to: u32) -> Result<Op, Memory>
+    ensures { IfOk result (λ op. op ≡ If LessUnsigned 10 7 above below (to ∷ [])) }
 {
-    let below = vec![in alloc; compute(BELOW_ZERO, RegisterOp::Sub, TOP, WORD)]?;
-    let above = vec![in alloc; compute(ABOVE_ZERO, RegisterOp::Sub, WORD, TOP)]?;
-    let below = giving(alloc, Items::from_vec(below), &[BELOW_ZERO])?;
-    let above = giving(alloc, Items::from_vec(above), &[ABOVE_ZERO])?;
     branch(
         alloc,
         Relation::LessUnsigned,
-        WORD,
-        TOP,
-        below,
+        NUMBER,
+        FIXED.top,
         above,
-        &[MAGNITUDE],
+        below,
+        &[to],
     )
+}
+
+// How far the number is from 0.
+fn magnitude(alloc: Global) -> Result<Op, Memory>
+    ensures { IfOk result (λ op. op ≡ magnitude_op) }
+{
+    let opposite = vec![in alloc; compute(OPPOSITE, RegisterOp::Sub, FIXED.zero, NUMBER)]?;
+    let above = giving(alloc, Items::new(alloc), &[NUMBER])?;
+    let below = giving(alloc, Items::from_vec(opposite), &[OPPOSITE])?;
+    by_sign(alloc, above, below, MAGNITUDE)
 }
 
 // Stores the last digit of what is left, and is the last round where nothing is left then.
@@ -93,7 +101,15 @@ fn digit(alloc: Global) -> Result<Items<Op>, Memory>
     let last = vec![in alloc; leave(alloc, DIGIT_AT)?]?;
     let last = giving(alloc, Items::from_vec(last), &[])?;
     let more = giving(alloc, Items::new(alloc), &[])?;
-    let ends = branch(alloc, Relation::Equal, LEFT_NEXT, ZERO, last, more, &[])?;
+    let ends = branch(
+        alloc,
+        Relation::Equal,
+        LEFT_NEXT,
+        FIXED.zero,
+        last,
+        more,
+        &[],
+    )?;
     let ops = vec![in alloc;
         compute(LAST_DIGIT, RegisterOp::Remu, LEFT, TEN),
         compute(DIGIT, RegisterOp::Add, LAST_DIGIT, DIGIT_ZERO),
@@ -120,25 +136,17 @@ fn digits(alloc: Global) -> Result<Op, Memory>
     )
 }
 
-// A minus stands before the digits where the int is below 0.
+// A minus stands before the digits where the number is below 0.
 fn sign(alloc: Global) -> Result<Op, Memory>
     ensures { IfOk result (λ op. op ≡ sign_op) }
 {
-    let below = vec![in alloc;
+    let minus = vec![in alloc;
         compute(SIGN_AT, RegisterOp::Sub, DIGITS_BEGIN, ONE),
         store(SIGN_AT, MINUS),
     ]?;
-    let below = giving(alloc, Items::from_vec(below), &[SIGN_AT])?;
     let above = giving(alloc, Items::new(alloc), &[DIGITS_BEGIN])?;
-    branch(
-        alloc,
-        Relation::LessUnsigned,
-        WORD,
-        TOP,
-        below,
-        above,
-        &[INT_BEGINS],
-    )
+    let below = giving(alloc, Items::from_vec(minus), &[SIGN_AT])?;
+    by_sign(alloc, above, below, INT_BEGINS)
 }
 
 // Stores a blank, but where the text has its width this is the last round.
@@ -180,28 +188,35 @@ fn blanks(alloc: Global) -> Result<Op, Memory>
     )
 }
 
-// The constants come first, and the text is put at the end.
+// The constants, and the number of the int behind them.
+fn values(alloc: Global) -> Result<Code, Memory>
+    ensures { IfOk result (λ code. code ≡ record { ops = value_ops; next = 11 }) }
+{
+    let mut code = Code::new(alloc, DIGIT_ZERO);
+    code.constant(48)?;
+    code.frame(64)?;
+    code.constant(10)?;
+    code.constant(1)?;
+    let fixed = fixed_values(&mut code)?;
+    code.constant(45)?;
+    code.constant(32)?;
+    number(&mut code, fixed, WORD)?;
+    Ok(code)
+}
+
+// The text of the number is stored, and put at the end.
 fn int_ops(alloc: Global) -> Result<Items<Op>, Memory>
     ensures { IfOk result (λ ops. ops ≡ put_int_ops) }
 {
-    let ops = vec![in alloc;
-        constant(TOP, 2_147_483_648),
-        frame(END, 64),
-        constant(TEN, 10),
-        constant(ONE, 1),
-        constant(DIGIT_ZERO, 48),
-        constant(ZERO, 0),
-        constant(MINUS, 45),
-        constant(BLANK, 32),
-        magnitude(alloc)?,
-        digits(alloc)?,
-        sign(alloc)?,
-        compute(WIDTH_BEGINS, RegisterOp::Sub, END, WIDTH),
-        blanks(alloc)?,
-        compute(TEXT_LENGTH, RegisterOp::Sub, END, TEXT_BEGINS),
-        put(REPLY, TEXT_BEGINS, TEXT_LENGTH),
-    ]?;
-    Ok(Items::from_vec(ops))
+    let mut code = values(alloc)?;
+    code.push(magnitude(alloc)?)?;
+    code.push(digits(alloc)?)?;
+    code.push(sign(alloc)?)?;
+    code.push(compute(WIDTH_BEGINS, RegisterOp::Sub, END, WIDTH))?;
+    code.push(blanks(alloc)?)?;
+    code.push(compute(TEXT_LENGTH, RegisterOp::Sub, END, TEXT_BEGINS))?;
+    code.push(put(REPLY, TEXT_BEGINS, TEXT_LENGTH))?;
+    Ok(code.ops)
 }
 
 /// It takes the word of an int and a width up to 255. The text ends where the last word of the frame

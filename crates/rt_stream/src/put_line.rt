@@ -3,8 +3,9 @@
 ghost use Rattle.std.specs.Prelude.{◌≡◌, IfOk};
 ghost use Rattle.rt_stream.specs.Routines.{put_line_routine};
 
-use crate::build::{constant, frame, put, store};
-use ir_form::{Region, Routine};
+use ir_code::Code;
+use ir_form::{Region, Routine, Width};
+use rv_isa::Service;
 use sqlite_items::Items;
 use std::alloc::Global;
 use tu_base::Memory;
@@ -13,16 +14,15 @@ use tu_base::Memory;
 pub fn put_line(alloc: Global) -> Result<Routine, Memory>
     ensures { IfOk result (λ routine. routine ≡ put_line_routine) }
 {
-    let ops = vec![in alloc;
-        frame(0, 0),
-        constant(1, 10),
-        store(0, 1),
-        constant(2, 1),
-        put(3, 0, 2),
-    ]?;
+    let mut code = Code::new(alloc, 0);
+    let at = code.frame(0)?;
+    let end = code.constant(10)?;
+    code.store(Width::Byte, at, end)?;
+    let length = code.constant(1)?;
+    code.ask(Service::PutConsole { at, length })?;
     let body = Region {
         parameters: Items::new(alloc),
-        ops: Items::from_vec(ops),
+        ops: code.ops,
         results: Items::new(alloc),
     };
     Ok(Routine {

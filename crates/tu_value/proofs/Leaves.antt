@@ -1,22 +1,25 @@
 -- What the pieces of code do that read and store values.
-use Rattle.std.proofs.Common.{◌≡◌, ℕ, ◌+◌, ◌≤◌, true, false, [], refl, arith, Some, None, ap, ◌∙◌, sym, subst}
-use Rattle.std.specs.Prelude.{if◌then◌else◌, pos}
+use Rattle.std.proofs.Common.{◌≡◌, ℕ, suc, ◌+◌, ◌-◌, ◌%◌, ◌≤◌, true, false, [], refl, arith, Some, None, ap, ◌∙◌, sym, subst}
+use Rattle.std.specs.Prelude.{if◌then◌else◌, ℤ, pos, negsuc}
+use Rattle.std.specs.Int.{w32, cast_unsigned}
 use Rattle.tu_base.specs.declared.kind.Kind.TheVariants as kind
+use Rattle.rv_isa.specs.declared.instr.RegisterOp.TheVariants.{Add}
 use Rattle.rv_isa.specs.declared.instr.Relation.TheVariants.{NotEqual}
 use Rattle.ir_form.specs.Cells.{loaded, with_word}
 use Rattle.ir_form.specs.Meaning.{run_list}
 use Rattle.ir_form.specs.Place.{Setting}
 use Rattle.ir_form.specs.Plain.{Calls}
-use Rattle.ir_form.specs.State.{State}
+use Rattle.ir_form.specs.State.{State, next}
 use Rattle.ir_form.specs.declared.plain.Width.TheVariants.{Word}
-use Rattle.ir_code.proofs.Steps.{set, set_same, set_below, AllGo, none, stops, ◌▸◌, ◌▹◌, constant_goes, load_goes, store_goes, check_goes, check_stops}
+use Rattle.ir_code.proofs.Steps.{set, set_same, set_below, AllGo, none, stops, ◌▸◌, ◌▹◌, constant_goes, compute_goes, load_goes, store_goes, check_goes, check_stops}
 use Rattle.tu_meaning.specs.Values.{Value, Unset, Int, Truth}
-use Rattle.tu_value.specs.Words.{word_of, IsSmall}
+use Rattle.tu_meaning.specs.Operators.{is_int}
+use Rattle.tu_value.specs.Words.{word_of, word_of_int, IsSmall}
 use Rattle.tu_value.specs.Pieces.{fetch_code, fixed_code, literal_code, store_code}
 use Rattle.tu_value.specs.Meets.{GivesValue, RaisesAt, Meets, HasFixed, StoresWord, fetched}
-use Rattle.tu_value.specs.Laws.{FetchMeets, FixedAreGiven, GivesFixed, LiteralMeets, StoreRuns, WordsFit}
+use Rattle.tu_value.specs.Laws.{FetchMeets, FixedAreGiven, GivesFixed, LiteralMeets, NumberIsGiven, StoreRuns, UnsetRuns, WordsFit}
 use Rattle.tu_value.specs.declared.pieces.Fixed.{Fixed}
-use Rattle.tu_value.proofs.Numbers.{small_word}
+use Rattle.tu_value.proofs.Numbers.{small_of, small_word}
 use Rattle.tu_value.proofs.Outcomes.{unchanged, also, past, gives_value, raises_at}
 use Rattle.tu_value.proofs.Tests.{at_most_test, is_set}
 
@@ -67,3 +70,15 @@ store_runs g calls at from a w st c e f open_word = runs (store_goes Word at fro
   where
     runs : AllGo g calls (store_code at from) st c (record st { cells = with_word st.cells a w }) (c + 7) → StoresWord a w st c (run_list g calls (store_code at from) st c)
     runs e = subst (λ r. StoresWord a w st c r) (sym e.is) (record { how = refl; state = refl; costs = record { begun = omega arith; bound = omega arith } })
+
+pub unset_runs : UnsetRuns
+unset_runs g calls k at n a st c h e open_word = store_runs g calls at k.zero a 0 st c e h.zero_is open_word
+
+number_word : (z : ℤ) → is_int z ≡ true → (word_of_int z + 2147483648) % 4294967296 ≡ cast_unsigned w32 z
+number_word (pos n) e = let le : n ≤ 2147483647 = small_of n e in omega arith
+number_word (negsuc n) e = let le : suc n ≤ 2147483647 = small_of (suc n) e in let q : (2147483647 - n + 2147483648) % 4294967296 ≡ 4294967296 - suc n = omega arith in q
+
+pub number_is_given : NumberIsGiven
+number_is_given g calls k z value n st c h i =
+    let goes = compute_goes {g = g} {calls = calls} n Add value k.top {st = st} {c = c} i.is h.top_is ▸ none in
+    goes.is ∙ ap (λ w. next (set st n w) (c + 10)) (number_word z i.small)

@@ -1,18 +1,19 @@
 -- What the pieces of code do, and what relations say on words.
 use Rattle.std.specs.Prelude.{◌≡◌, ℕ, ◌+◌, ◌<◌, ◌≤◌, true, Some, ℤ, pos, ◌+ℤ◌, ◌-ℤ◌, ◌*ℤ◌}
+use Rattle.std.specs.Int.{w32, cast_unsigned}
 use Rattle.ir_form.specs.Cells.{Cells, is_open_word, loaded, with_word}
 use Rattle.ir_form.specs.Meaning.{run_list}
 use Rattle.ir_form.specs.Place.{Setting}
 use Rattle.ir_form.specs.Plain.{Calls}
-use Rattle.ir_form.specs.State.{State, Next, Run}
+use Rattle.ir_form.specs.State.{State, Next, Run, next, with_value}
 use Rattle.ir_form.specs.declared.plain.Width.TheVariants.{Word}
 use Rattle.tu_token.specs.Rules.{r-relation}
 use Rattle.tu_token.specs.Syntax.{Of}
-use Rattle.tu_meaning.specs.Values.{Value, Int}
+use Rattle.tu_meaning.specs.Values.{Value, Unset, Int}
 use Rattle.tu_meaning.specs.Operators.{Gives, exact, is_int, relate}
 use Rattle.tu_value.specs.declared.pieces.Fixed.{Fixed}
 use Rattle.tu_value.specs.Words.{word_of, word_of_int, IsSmall}
-use Rattle.tu_value.specs.Pieces.{difference_code, fetch_code, fixed_code, fixed_from, less_code, literal_code, more_code, product_code, store_code, sum_code}
+use Rattle.tu_value.specs.Pieces.{difference_code, fetch_code, fixed_code, fixed_from, less_code, literal_code, more_code, number_code, product_code, store_code, sum_code, unset_code}
 use Rattle.tu_value.specs.Meets.{OnlyFrom, Costs, Meets, HasFixed, HasInt, StoresWord, HoldsWord, fetched}
 use Rattle.tu_value.specs.Comparisons.{comparison_of, compared}
 
@@ -39,8 +40,16 @@ FetchMeets = (g : Setting) (calls : Calls) (k : Fixed) (v : Value) (line at n a 
 abbrev pub StoreRuns : Type 0
 StoreRuns = (g : Setting) (calls : Calls) (at from a w : ℕ) (st : State) (c : ℕ) → st.env at ≡ Some a → st.env from ≡ Some w → is_open_word st.cells a ≡ true → StoresWord a w st c (run_list g calls (store_code at from) st c)
 
+-- the word of a variable that is not set
+abbrev pub UnsetRuns : Type 0
+UnsetRuns = (g : Setting) (calls : Calls) (k : Fixed) (at n a : ℕ) (st : State) (c : ℕ) → HasFixed k n st → st.env at ≡ Some a → is_open_word st.cells a ≡ true → StoresWord a (word_of Unset) st c (run_list g calls (unset_code k at) st c)
+
 abbrev pub StoreKeeps : Type 0
 StoreKeeps = (cells : Cells) (a w : ℕ) → is_open_word cells a ≡ true → w < 4294967296 → HoldsWord a w cells (with_word cells a w)
+
+-- the number of an int, in two's complement
+abbrev pub NumberIsGiven : Type 0
+NumberIsGiven = (g : Setting) (calls : Calls) (k : Fixed) (z : ℤ) (value n : ℕ) (st : State) (c : ℕ) → HasFixed k n st → HasInt z value n st → run_list g calls (number_code k value n) st c ≡ next (record st { env = with_value st.env n (cast_unsigned w32 z) }) (c + 10)
 
 abbrev pub SumMeets : Type 0
 SumMeets = (g : Setting) (calls : Calls) (k : Fixed) (x y : ℤ) (line left right n : ℕ) (st : State) (c : ℕ) → HasFixed k n st → HasInt x left n st → HasInt y right n st → Meets line n (n + 1) 72 (exact (x +ℤ y)) st c (run_list g calls (sum_code k line left right n) st c)

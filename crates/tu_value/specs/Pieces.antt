@@ -31,6 +31,14 @@ fetch_code k line at n = load n Word at ∷ raise_unless NotEqual n k.zero kind.
 abbrev pub store_code : (at from : ℕ) → List Op
 store_code at from = store Word at from ∷ []
 
+-- The variable at an address is unset.
+abbrev pub unset_code : Fixed → (at : ℕ) → List Op
+unset_code k at = store_code at k.zero
+
+-- The value n is the number of an int, as a word of the machine.
+abbrev pub number_code : Fixed → (value n : ℕ) → List Op
+number_code k value n = compute n Add value k.top ∷ []
+
 -- The value n + 1 is the sum of two values. Where the right one is below 0 the sum is below the left one, and else it is not.
 abbrev pub sum_code : Fixed → (line left right n : ℕ) → List Op
 sum_code k line left right n =

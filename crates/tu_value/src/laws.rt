@@ -1,4 +1,4 @@
-ghost use Rattle.tu_value.specs.Laws.{DifferenceMeets, FetchMeets, FixedAreGiven, LessMeets, LiteralMeets, MoreMeets, ProductMeets, RelationsHold, StoreKeeps, StoreRuns, SumMeets, WordsFit};
+ghost use Rattle.tu_value.specs.Laws.{DifferenceMeets, FetchMeets, FixedAreGiven, LessMeets, LiteralMeets, MoreMeets, NumberIsGiven, ProductMeets, RelationsHold, StoreKeeps, StoreRuns, SumMeets, UnsetRuns, WordsFit};
 
 /// What a routine begins with, and ints as they are written in the program.
 pub fn constants_are_given()
@@ -10,8 +10,15 @@ pub fn constants_are_given()
 pub fn values_are_kept()
     ensures fetch { FetchMeets }
     ensures store { StoreRuns }
+    ensures unset { UnsetRuns }
     ensures kept { StoreKeeps }
     ensures words { WordsFit }
+{}
+
+/// The number of an int, as the machine has numbers.
+#[tactic(auto, using(crate::proofs::Leaves::number_is_given))]
+pub fn numbers_are_given()
+    ensures { NumberIsGiven }
 {}
 
 /// The pieces of the operators give what the operators answer.

@@ -5,7 +5,9 @@
 mod laws;
 mod pieces;
 
-pub use laws::{constants_are_given, operators_meet, relations_hold, values_are_kept};
+pub use laws::{
+    constants_are_given, numbers_are_given, operators_meet, relations_hold, values_are_kept,
+};
 pub use pieces::{
-    Fixed, difference, fetch, fixed_values, less, literal, more, product, store, sum,
+    Fixed, difference, fetch, fixed_values, less, literal, more, number, product, store, sum, unset,
 };

@@ -1,7 +1,7 @@
 ghost use Rattle.std.specs.Prelude.{◌≡◌, ◌+◌, ◌<◌, ◌≤◌, IfOk, OnOk};
 ghost use Rattle.tu_base.specs.declared.kind.Kind.TheVariants.{Overflow};
 ghost use Rattle.ir_code.specs.Pieces.{raise_unless, with_op};
-ghost use Rattle.tu_value.specs.Pieces.{difference_code, fetch_code, fixed_code, fixed_from, less_code, literal_code, more_code, product_code, store_code, sum_code, with_piece};
+ghost use Rattle.tu_value.specs.Pieces.{difference_code, fetch_code, fixed_code, fixed_from, less_code, literal_code, more_code, number_code, product_code, store_code, sum_code, unset_code, with_piece};
 
 use ir_code::Code;
 use ir_form::Width;
@@ -86,6 +86,23 @@ pub fn store(code: &mut Code, at: u32, from: u32) -> Result<(), Memory>
     ensures { OnOk result (code.new ≡ with_piece code.old (store_code at from) 0) }
 {
     code.store(Width::Word, at, from)
+}
+
+/// Appends what makes the variable at an address unset.
+pub fn unset(code: &mut Code, fixed: Fixed, at: u32) -> Result<(), Memory>
+    ensures { OnOk result (code.new ≡ with_piece code.old (unset_code fixed at) 0) }
+{
+    store(code, at, fixed.zero)
+}
+
+/// Appends the number of an int, as a word of the machine in two's complement.
+pub fn number(code: &mut Code, fixed: Fixed, value: u32) -> Result<u32, Memory>
+    requires { code.old.next < 4294967295 }
+    ensures appended { OnOk result
+        (code.new ≡ with_piece code.old (number_code fixed value code.old.next) 1) }
+    ensures value { IfOk result (λ value. value ≡ code.old.next) }
+{
+    code.compute(RegisterOp::Add, value, fixed.top)
 }
 
 /// Appends the sum of two ints.

@@ -1,6 +1,7 @@
 use Rattle.std.proofs.Common.{length, ap, ◌∙◌, arith}
+use Rattle.ir_build.specs.Keeps.{variables_of}
 use Rattle.ir_build.proofs.Tokens.{tokens_are}
-use Rattle.ir_stmt.specs.Made.{declared, names_only}
+use Rattle.ir_stmt.specs.Made.{declared}
 use Rattle.ir_stmt.proofs.Programs.{item_new, item_tokens_at, built_at, built_on, item_at, program_begin, built_begin, tokens_begin}
 use Rattle.ir_stmt.proofs.program.unit_of.Goals as goal
 
@@ -22,7 +23,7 @@ loop-part-init c =
 pub item-requires-clause-new : goal.item-requires-clause-new
 item-requires-clause-new c =
     let x = c.loop-part-item.result in
-    item_new (names_only c.loop-part.names) x.0 (built_at (names_only c.loop-part.names) c.as_slice-part-items.result.now c.loop-part.part-index x c.loop-part-test.true c.loop-part-item.is c.loop-part.invariant.built).0
+    item_new (variables_of c.loop-part.names) x.0 (built_at (variables_of c.loop-part.names) c.as_slice-part-items.result.now c.loop-part.part-index x c.loop-part-test.true c.loop-part-item.is c.loop-part.invariant.built).0
 
 pub loop-part-preserved : goal.loop-part-preserved
 loop-part-preserved c =
