@@ -1,6 +1,7 @@
 -- Operands in a list, one after the other: the code so far, and that of those still to come.
 use Rattle.std.proofs.Common.{◌≡◌, ℕ, zero, suc, ◌+◌, ◌<◌, ◌≤◌, List, [], ◌∷◌, length, drop, get_or, refl, ap, ◌∙◌, sym, arith, add-one, drop-cons}
-use Rattle.grammar.specs.Tree.{Mark, n-token, n-rule, repeated}
+use Rattle.grammar.specs.Description.{Description}
+use Rattle.grammar.specs.Tree.{Mark, Node, height, n-token, n-rule, repeated}
 use Rattle.ir_code.specs.declared.code.Code.{Code}
 use Rattle.tu_token.specs.Rules.{r-expr, r-term, r-prefix, r-primary, r-path, many}
 use Rattle.tu_token.specs.Syntax.{Of}
@@ -36,6 +37,12 @@ nothing_left [] zero h = refl
 nothing_left [] (suc i) h = refl
 nothing_left (x ∷ xs) zero h = absurd (omega arith)
 nothing_left (x ∷ xs) (suc i) h = nothing_left xs i (omega arith)
+
+-- what stands in a list lies no higher than the list
+pub lies_in : {Rule A : Type 0} {body : Rule → Description Rule} (d : Description Rule) (show : A → Node body d) (xs : List A) (i : ℕ) (x : A) → i < length xs → x ≡ get_or xs i x → height (show x) ≤ height (repeated d show xs)
+lies_in d show [] i x h is = absurd (omega arith)
+lies_in d show (y ∷ ys) zero x h is = omega (arith, ap (λ z. height (show z)) is)
+lies_in d show (y ∷ ys) (suc i) x h is = let below = lies_in d show ys i x (omega arith) is in omega (arith, below)
 
 tokens_more : (x : Sign × Of r-term) (xs : List (Sign × Of r-term)) → tokens_in (terms (x ∷ xs)) ≡ (tokens_in x.1 + 1) + tokens_in (terms xs)
 tokens_more (Plus, x) xs = omega arith

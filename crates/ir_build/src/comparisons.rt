@@ -7,7 +7,7 @@ ghost use Rattle.ir_build.specs.Code.{test_compare, test_expr, where_tested};
 ghost use Rattle.ir_build.specs.Compared.{comparison, tested_code};
 ghost use Rattle.ir_build.specs.Tokens.{tokens_in};
 
-use crate::Names;
+use crate::Environment;
 use crate::expressions::terms;
 use crate::levels::compare_of;
 use ir_code::{Code, choice};
@@ -17,7 +17,6 @@ use sqlite_items::Items;
 use std::alloc::Global;
 use tu_base::{Line, Memory};
 use tu_expr::{Compare, Expr, RelationKind};
-use tu_value::Fixed;
 
 /// Two values, and how they are compared.
 #[derive(Clone, Copy, Debug)]
@@ -54,22 +53,20 @@ fn comparison_of(relation: &tu_expr::Relation) -> Option<(Relation, bool)>
 // Appends what works out the two sides of a comparison.
 fn comparison(
     code: &mut Code,
-    alloc: Global,
-    fixed: Fixed,
-    names: &Names,
+    environment: &Environment<'_>,
     line: Line,
     compare: &Compare,
 ) -> Result<Tested, Memory>
     requires { code.old.next + 12 * tokens_in compare.now ≤ 4294967295 }
-    ensures made { IfOk result (λ tested. tested_code code.new tested ≡ test_compare fixed names.now line compare.now code.old) }
+    ensures made { IfOk result (λ tested. tested_code code.new tested ≡ test_compare environment.now.fixed environment.now.names.now line compare.now code.old) }
     ensures next { OnOk result (code.new.next ≤ code.old.next + 12 * tokens_in compare.now) }
 {
     if compare.more.len() != 1 {
         return Ok(NOT_TESTED);
     }
     let (relation, operand) = &compare.more.as_slice()[0];
-    let left = terms(code, alloc, fixed, names, line, &compare.first)?;
-    let right = terms(code, alloc, fixed, names, line, operand)?;
+    let left = terms(code, environment, line, &compare.first)?;
+    let right = terms(code, environment, line, operand)?;
     match comparison_of(relation) {
         None => Ok(NOT_TESTED),
         Some((relation, is_swapped)) => Ok(Tested {
@@ -84,19 +81,17 @@ fn comparison(
 /// Appends what works out the two sides of a condition.
 pub fn condition(
     code: &mut Code,
-    alloc: Global,
-    fixed: Fixed,
-    names: &Names,
+    environment: &Environment<'_>,
     line: Line,
     expr: &Expr,
 ) -> Result<Tested, Memory>
     requires { code.old.next + 12 * tokens_in expr.now ≤ 4294967295 }
-    ensures made { IfOk result (λ tested. tested_code code.new tested ≡ test_expr fixed names.now line expr.now code.old) }
+    ensures made { IfOk result (λ tested. tested_code code.new tested ≡ test_expr environment.now.fixed environment.now.names.now line expr.now code.old) }
     ensures next { OnOk result (code.new.next ≤ code.old.next + 12 * tokens_in expr.now) }
 {
     match compare_of(expr) {
         None => Ok(NOT_TESTED),
-        Some(compare) => comparison(code, alloc, fixed, names, line, compare),
+        Some(compare) => comparison(code, environment, line, compare),
     }
 }
 

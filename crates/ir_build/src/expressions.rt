@@ -5,33 +5,30 @@ ghost use Rattle.ir_build.specs.Code.{code_expr, code_path, code_prefix, code_su
 ghost use Rattle.ir_build.specs.Levels.{made, signed_term};
 ghost use Rattle.ir_build.specs.Tokens.{tokens_in};
 
-use crate::Names;
+use crate::Environment;
 use crate::levels::{literal_of, number_of, primary_of, sum_of};
 use ir_code::Code;
-use std::alloc::Global;
 use tu_base::{Line, Memory};
 use tu_expr::{Expr, Multiplication, Path, Prefix, PrimaryForm, Sign, Sum, Term};
-use tu_value::{Fixed, difference, fetch, less, literal, more, product, sum};
+use tu_value::{difference, fetch, less, literal, more, product, sum};
 
 // Appends the reading of a variable.
 fn variable(
     code: &mut Code,
-    alloc: Global,
-    fixed: Fixed,
-    names: &Names,
+    environment: &Environment<'_>,
     line: Line,
     path: &Path,
 ) -> Result<u32, Memory>
     requires { code.old.next + 12 * tokens_in path.now ≤ 4294967295 }
-    ensures made { IfOk result (λ value. made code.new value ≡ code_path fixed names.now line path.now code.old) }
+    ensures made { IfOk result (λ value. made code.new value ≡ code_path environment.now.fixed environment.now.names.now line path.now code.old) }
     ensures next { OnOk result (code.new.next ≤ code.old.next + 12 * tokens_in path.now) }
 {
     if !path.steps.is_empty() {
         return Ok(0);
     }
-    match names.find(path.root.text.as_slice()) {
+    match environment.names.find(path.root.text.as_slice()) {
         None => Ok(0),
-        Some(at) => fetch(code, alloc, fixed, line, at),
+        Some(at) => fetch(code, environment.alloc, environment.fixed, line, at),
     }
 }
 
@@ -39,19 +36,17 @@ fn variable(
 #[cycle(code)]
 pub fn expression(
     code: &mut Code,
-    alloc: Global,
-    fixed: Fixed,
-    names: &Names,
+    environment: &Environment<'_>,
     line: Line,
     expr: &Expr,
 ) -> Result<u32, Memory>
     requires { code.old.next + 12 * tokens_in expr.now ≤ 4294967295 }
-    ensures made { IfOk result (λ value. made code.new value ≡ code_expr fixed names.now line expr.now code.old) }
+    ensures made { IfOk result (λ value. made code.new value ≡ code_expr environment.now.fixed environment.now.names.now line expr.now code.old) }
     ensures next { OnOk result (code.new.next ≤ code.old.next + 12 * tokens_in expr.now) }
 {
     match sum_of(expr) {
         None => Ok(0),
-        Some(sum) => terms(code, alloc, fixed, names, line, sum),
+        Some(sum) => terms(code, environment, line, sum),
     }
 }
 
@@ -59,19 +54,17 @@ pub fn expression(
 #[cycle(code)]
 pub fn terms(
     code: &mut Code,
-    alloc: Global,
-    fixed: Fixed,
-    names: &Names,
+    environment: &Environment<'_>,
     line: Line,
     sum: &Sum,
 ) -> Result<u32, Memory>
     requires { code.old.next + 12 * tokens_in sum.now ≤ 4294967295 }
-    ensures made { IfOk result (λ value. made code.new value ≡ code_sum fixed names.now line sum.now code.old) }
+    ensures made { IfOk result (λ value. made code.new value ≡ code_sum environment.now.fixed environment.now.names.now line sum.now code.old) }
     ensures next { OnOk result (code.new.next ≤ code.old.next + 12 * tokens_in sum.now) }
 {
-    let mut value = factors(code, alloc, fixed, names, line, &sum.first)?;
+    let mut value = factors(code, environment, line, &sum.first)?;
     for (sign, term) in sum.more.as_slice() {
-        value = further_term(code, alloc, fixed, names, line, value, *sign, term)?;
+        value = further_term(code, environment, line, value, *sign, term)?;
     }
     Ok(value)
 }
@@ -80,25 +73,25 @@ pub fn terms(
 #[cycle(code)]
 fn further_term(
     code: &mut Code,
-    alloc: Global,
-    fixed: Fixed,
-    names: &Names,
+    environment: &Environment<'_>,
     line: Line,
     left: u32,
     sign: Sign,
     term: &Term,
 ) -> Result<u32, Memory>
     requires { code.old.next + 12 * (tokens_in term.now + 1) ≤ 4294967295 }
-    ensures made { IfOk result (λ value. made code.new value ≡ signed_term fixed names.now line sign (made code.old left) term.now) }
+    ensures made { IfOk result (λ value. made code.new value ≡ signed_term environment.now.fixed environment.now.names.now line sign (made code.old left) term.now) }
     ensures next { OnOk result (code.new.next ≤ code.old.next + 12 * (tokens_in term.now + 1)) }
 {
+    let alloc = environment.alloc;
+    let fixed = environment.fixed;
     match literal_of(term) {
         Some(number) => match sign {
             Sign::Plus => more(code, alloc, line, left, number),
             Sign::Minus => less(code, alloc, line, left, number),
         },
         None => {
-            let right = factors(code, alloc, fixed, names, line, term)?;
+            let right = factors(code, environment, line, term)?;
             match sign {
                 Sign::Plus => sum(code, alloc, fixed, line, left, right),
                 Sign::Minus => difference(code, alloc, fixed, line, left, right),
@@ -111,22 +104,22 @@ fn further_term(
 #[cycle(code)]
 fn factors(
     code: &mut Code,
-    alloc: Global,
-    fixed: Fixed,
-    names: &Names,
+    environment: &Environment<'_>,
     line: Line,
     term: &Term,
 ) -> Result<u32, Memory>
     requires { code.old.next + 12 * tokens_in term.now ≤ 4294967295 }
-    ensures made { IfOk result (λ value. made code.new value ≡ code_term fixed names.now line term.now code.old) }
+    ensures made { IfOk result (λ value. made code.new value ≡ code_term environment.now.fixed environment.now.names.now line term.now code.old) }
     ensures next { OnOk result (code.new.next ≤ code.old.next + 12 * tokens_in term.now) }
 {
-    let mut value = factor(code, alloc, fixed, names, line, &term.first)?;
+    let alloc = environment.alloc;
+    let fixed = environment.fixed;
+    let mut value = factor(code, environment, line, &term.first)?;
     for (operator, prefix) in term.more.as_slice() {
         if *operator != Multiplication::Times {
             return Ok(value);
         }
-        let right = factor(code, alloc, fixed, names, line, prefix)?;
+        let right = factor(code, environment, line, prefix)?;
         value = product(code, alloc, fixed, line, value, right)?;
     }
     Ok(value)
@@ -136,24 +129,20 @@ fn factors(
 #[cycle(code)]
 fn factor(
     code: &mut Code,
-    alloc: Global,
-    fixed: Fixed,
-    names: &Names,
+    environment: &Environment<'_>,
     line: Line,
     prefix: &Prefix,
 ) -> Result<u32, Memory>
     requires { code.old.next + 12 * tokens_in prefix.now ≤ 4294967295 }
-    ensures made { IfOk result (λ value. made code.new value ≡ code_prefix fixed names.now line prefix.now code.old) }
+    ensures made { IfOk result (λ value. made code.new value ≡ code_prefix environment.now.fixed environment.now.names.now line prefix.now code.old) }
     ensures next { OnOk result (code.new.next ≤ code.old.next + 12 * tokens_in prefix.now) }
 {
     match primary_of(prefix) {
         None => Ok(0),
         Some(primary) => match &primary.form {
             PrimaryForm::Number(digits) => literal(code, number_of(digits.text.as_slice())),
-            PrimaryForm::Path(path) => variable(code, alloc, fixed, names, line, path),
-            PrimaryForm::Brackets(inner) => {
-                expression(code, alloc, fixed, names, line, inner.get())
-            }
+            PrimaryForm::Path(path) => variable(code, environment, line, path),
+            PrimaryForm::Brackets(inner) => expression(code, environment, line, inner.get()),
             PrimaryForm::True | PrimaryForm::False | PrimaryForm::Text(..) | PrimaryForm::Nil(_) =>
                 Ok(0),
         },

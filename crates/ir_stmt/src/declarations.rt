@@ -10,7 +10,7 @@ ghost use Rattle.ir_stmt.specs.Code.{code_var, declare_all, started, store_all};
 ghost use Rattle.ir_stmt.specs.Made.{declared};
 
 use crate::statements::store_in;
-use ir_build::{Names, expression};
+use ir_build::{Environment, Names, expression};
 use ir_code::Code;
 use std::alloc::Global;
 use tu_base::{Line, Memory};
@@ -80,20 +80,18 @@ fn store_in_all(
 // Appends what gives variables the value with which they begin.
 fn start(
     code: &mut Code,
-    alloc: Global,
-    fixed: Fixed,
-    names: &Names,
+    environment: &Environment<'_>,
     line: Line,
     listed: &tu_tree::Names,
     value: &Expr,
 ) -> Result<(), Memory>
     requires { code.old.next + 12 * tokens_in value.now ≤ 4294967295 }
     ensures code { OnOk result
-        (declared code.new names.now ≡ started fixed line (names_of listed.now) value.now (declared code.old names.now)) }
+        (declared code.new environment.now.names.now ≡ started environment.now.fixed line (names_of listed.now) value.now (declared code.old environment.now.names.now)) }
     ensures next { OnOk result (code.new.next ≤ code.old.next + 12 * tokens_in value.now) }
 {
-    let from = expression(code, alloc, fixed, names, line, value)?;
-    store_in_all(code, names, listed, from)
+    let from = expression(code, environment, line, value)?;
+    store_in_all(code, environment.names, listed, from)
 }
 
 /// Declares variables, and appends what gives them the value with which they begin.
@@ -117,14 +115,24 @@ pub fn declaration(
         VarForm::Collection(_) => Ok(()),
         VarForm::Started(value) => {
             declare_listed(code, alloc, fixed, names, &var.names)?;
-            start(code, alloc, fixed, names, line, &var.names, value.get())
+            let environment = Environment {
+                alloc,
+                fixed,
+                names,
+            };
+            start(code, &environment, line, &var.names, value.get())
         }
         VarForm::Typed(_, None) => declare_listed(code, alloc, fixed, names, &var.names),
         VarForm::Typed(_, Some(first)) => match &first.form {
             StartForm::Init(..) => Ok(()),
             StartForm::Value(value) => {
                 declare_listed(code, alloc, fixed, names, &var.names)?;
-                start(code, alloc, fixed, names, line, &var.names, value.get())
+                let environment = Environment {
+                    alloc,
+                    fixed,
+                    names,
+                };
+                start(code, &environment, line, &var.names, value.get())
             }
         },
     }

@@ -14,7 +14,7 @@ ghost use Rattle.ir_stmt.specs.Unit.{IsKept, unit_of};
 
 use crate::declarations::declaration;
 use crate::statements::statement;
-use ir_build::Names;
+use ir_build::{Environment, Names};
 use ir_code::Code;
 use ir_form::{Region, Routine, Unit, run_is_steady, valid_is_sound};
 use rt_stream::routines;
@@ -43,7 +43,14 @@ fn item(
 {
     match &item.form {
         ItemForm::Var(var) => declaration(code, alloc, fixed, names, var),
-        ItemForm::Statement(inner) => statement(code, alloc, fixed, names, 0, inner),
+        ItemForm::Statement(inner) => {
+            let environment = Environment {
+                alloc,
+                fixed,
+                names,
+            };
+            statement(code, &environment, 0, inner)
+        }
         ItemForm::Const(_) | ItemForm::Type(_) | ItemForm::Subprogram(_) | ItemForm::Module(_) =>
             Ok(()),
     }

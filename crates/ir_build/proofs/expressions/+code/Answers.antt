@@ -1,12 +1,14 @@
-use Rattle.std.proofs.Common.{◌≡◌, ◌+◌, drop, ap, sym, subst, ◌∙◌, rules, arith}
+use Rattle.std.proofs.Common.{◌≡◌, ◌+◌, ◌*◌, ◌<◌, drop, ap, sym, subst, ◌∙◌, rules, arith}
 use Rattle.std.specs.Prelude.{IfOk}
 use Rattle.std.proofs.lemmas.Grind.{common_steps}
 use Rattle.std.proofs.lemmas.Result.{on_ok_weaker}
+use Rattle.grammar.specs.Tree.{height}
 use Rattle.tu_expr.specs.declared.expr.Multiplication.TheVariants.{Times}
+use Rattle.tu_expr.specs.Views.{multiplied, multiplied_view, signed, signed_view}
 use Rattle.ir_build.specs.Code.{times, code_expr, code_terms, code_factors, code_prefix, code_primary}
 use Rattle.ir_build.specs.Levels.{made}
 use Rattle.ir_build.specs.Tokens.{tokens_in}
-use Rattle.ir_build.proofs.Operands.{terms, factors, terms_at, tokens_at, factors_at, factor_tokens_at, path_alone, brackets_alone}
+use Rattle.ir_build.proofs.Operands.{terms, factors, lies_in, terms_at, tokens_at, factors_at, factor_tokens_at, path_alone, brackets_alone}
 use Rattle.ir_build.proofs.expressions.+code.Goals as goal
 
 pub factor-variable-requires : goal.factor-variable-requires
@@ -18,7 +20,7 @@ factor-variable-requires t c =
 pub factor-returns-in-Path-clause-made : goal.factor-returns-in-Path-clause-made
 factor-returns-in-Path-clause-made t c =
     let is = path_alone c.in-Some.primary.now _ c.primary.inside.form c.in-Path.path c.primary.view_is c.in-Path.is in
-    let same = ap (λ z. code_primary c.args.fixed c.args.names.now c.args.line z c.args.code.now) is ∙ sym (c.in-Some.ensures.is.value c.args.fixed c.args.names.now c.args.line c.args.code.now) in
+    let same = ap (λ z. code_primary c.args.environment.now.fixed c.args.environment.now.names.now c.args.line z c.args.code.now) is ∙ sym (c.in-Some.ensures.is.value c.args.environment.now.fixed c.args.environment.now.names.now c.args.line c.args.code.now) in
     subst (λ z. IfOk c.variable.result (λ value. made c.variable.new.code value ≡ z)) same c.variable.ensures.made
 
 pub factor-returns-in-Path-clause-next : goal.factor-returns-in-Path-clause-next
@@ -29,14 +31,14 @@ factor-returns-in-Path-clause-next t c =
 pub factor-returns-in-Brackets-clause-made : goal.factor-returns-in-Brackets-clause-made
 factor-returns-in-Brackets-clause-made t c =
     let is = brackets_alone c.in-Some.primary.now _ c.primary.inside.form c.in-Brackets.inner c.primary.view_is c.in-Brackets.is in
-    let same = ap (λ z. code_expr c.args.fixed c.args.names.now c.args.line z c.args.code.now) c.get.ensures
-    ∙ (ap (λ z. code_primary c.args.fixed c.args.names.now c.args.line z c.args.code.now) is ∙ sym (c.in-Some.ensures.is.value c.args.fixed c.args.names.now c.args.line c.args.code.now)) in
+    let same = ap (λ z. code_expr c.args.environment.now.fixed c.args.environment.now.names.now c.args.line z c.args.code.now) c.get.ensures
+    ∙ (ap (λ z. code_primary c.args.environment.now.fixed c.args.environment.now.names.now c.args.line z c.args.code.now) is ∙ sym (c.in-Some.ensures.is.value c.args.environment.now.fixed c.args.environment.now.names.now c.args.line c.args.code.now)) in
     subst (λ z. IfOk c.expression.result (λ value. made c.expression.new.code value ≡ z)) same c.expression.ensures.made
 
 pub factors-loop-operator-preserved : goal.factors-loop-operator-preserved
 factors-loop-operator-preserved t c =
-    let k = c.args.fixed in
-    let names = c.args.names.now in
+    let k = c.args.environment.now.fixed in
+    let names = c.args.environment.now.names.now in
     let line = c.args.line in
     let xs = c.as_slice-operator-items.result.now in
     let i = c.loop-operator.operator-index in
@@ -54,8 +56,8 @@ factors-loop-operator-preserved t c =
 
 pub terms-loop-sign-preserved : goal.terms-loop-sign-preserved
 terms-loop-sign-preserved t c =
-    let k = c.args.fixed in
-    let names = c.args.names.now in
+    let k = c.args.environment.now.fixed in
+    let names = c.args.environment.now.names.now in
     let line = c.args.line in
     let xs = c.as_slice-sign-items.result.now in
     let i = c.loop-sign.sign-index in
@@ -66,3 +68,23 @@ terms-loop-sign-preserved t c =
           ∙ (sym (terms_at k names line so_far xs i x c.loop-sign-test.true c.loop-sign-item.is) ∙ c.loop-sign.invariant.rest);
       next = omega (arith, c.loop-sign.invariant.next, tokens_at xs i x c.loop-sign-test.true c.loop-sign-item.is, c.in_ok-value-2.ensures.next);
     }
+
+pub factors-factor-requires-in-loop-operator : goal.factors-factor-requires-in-loop-operator
+factors-factor-requires-in-loop-operator t c =
+    let xs = c.as_slice-operator-items.result.now in
+    let i = c.loop-operator.operator-index in
+    let x = c.loop-operator-item.result in
+    let lies = lies_in multiplied multiplied_view xs i x c.loop-operator-test.true c.loop-operator-item.is in
+    let whole = ap height (sym c.term.view_is) in
+    let falls : 2 * (2 * (height x.1 + 1) + 0) + 0 < t = omega (arith, c.decreases, lies, whole, ap (λ ys. height (factors ys)) c.as_slice-operator-items.ensures) in
+    (falls, omega (arith, c.loop-operator.invariant.next, factor_tokens_at xs i x c.loop-operator-test.true c.loop-operator-item.is))
+
+pub terms-further_term-requires : goal.terms-further_term-requires
+terms-further_term-requires t c =
+    let xs = c.as_slice-sign-items.result.now in
+    let i = c.loop-sign.sign-index in
+    let x = c.loop-sign-item.result in
+    let lies = lies_in signed signed_view xs i x c.loop-sign-test.true c.loop-sign-item.is in
+    let whole = ap height (sym c.sum.view_is) in
+    let falls : 2 * (2 * (height x.1 + 1) + 0) + 1 < t = omega (arith, c.decreases, lies, whole, ap (λ ys. height (terms ys)) c.as_slice-sign-items.ensures) in
+    (falls, omega (arith, c.loop-sign.invariant.next, tokens_at xs i x c.loop-sign-test.true c.loop-sign-item.is))

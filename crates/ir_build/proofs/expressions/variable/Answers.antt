@@ -4,4 +4,4 @@ use Rattle.ir_build.proofs.expressions.variable.Goals as goal
 
 pub returns-then-not-is_empty-clause-made : goal.returns-then-not-is_empty-clause-made
 returns-then-not-is_empty-clause-made c =
-    steps_more c.args.fixed c.args.names.now c.args.line c.args.code.now c.args.path.now _ c.path.inside.root c.path.inside.steps c.path.view_is (fails c.is_empty.ensures.1 c.if-not-is_empty.true)
+    steps_more c.args.environment.now.fixed c.args.environment.now.names.now c.args.line c.args.code.now c.args.path.now _ c.path.inside.root c.path.inside.steps c.path.view_is (fails c.is_empty.ensures.1 c.if-not-is_empty.true)

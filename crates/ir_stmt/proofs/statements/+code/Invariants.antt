@@ -6,14 +6,14 @@ use Rattle.ir_stmt.proofs.statements.+code.Given as goal
 
 abbrev pub invariant-further_arms-loop-elsif : goal.invariant-further_arms-loop-elsif
 invariant-further_arms-loop-elsif l = record {
-  rest : code_elsifs l.fixed l.names l.outside (elsifs_view (drop l.elsif-index l.elsifs)) l.code ≡ code_elsifs l.fixed l.names l.outside (elsifs_view l.elsifs) l.fn.code;
+  rest : code_elsifs l.environment.fixed l.environment.names.now l.outside (elsifs_view (drop l.elsif-index l.elsifs)) l.code ≡ code_elsifs l.environment.fixed l.environment.names.now l.outside (elsifs_view l.elsifs) l.fn.code;
   next : l.code.next + 12 * tokens_in (elsifs_view (drop l.elsif-index l.elsifs)) ≤ l.fn.code.next + 12 * tokens_in (elsifs_view l.elsifs);
   depth : tokens_in (elsifs_view (drop l.elsif-index l.elsifs)) ≤ tokens_in (elsifs_view l.elsifs);
 }
 
 abbrev pub invariant-block-loop-part : goal.invariant-block-loop-part
 invariant-block-loop-part l = record {
-  rest : code_parts l.fixed l.names l.outside (block_view (drop l.part-index l.part-items)) l.code ≡ code_block l.fixed l.names l.outside l.block l.fn.code;
+  rest : code_parts l.environment.fixed l.environment.names.now l.outside (block_view (drop l.part-index l.part-items)) l.code ≡ code_block l.environment.fixed l.environment.names.now l.outside l.block l.fn.code;
   next : l.code.next + 12 * tokens_in (block_view (drop l.part-index l.part-items)) ≤ l.fn.code.next + 12 * tokens_in l.block;
   depth : tokens_in (block_view (drop l.part-index l.part-items)) ≤ tokens_in l.block;
 }

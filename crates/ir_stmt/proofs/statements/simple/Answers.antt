@@ -8,8 +8,8 @@ use Rattle.ir_stmt.proofs.statements.simple.Goals as goal
 
 pub returns-in-Assign-clause-code : goal.returns-in-Assign-clause-code
 returns-in-Assign-clause-code c =
-    let k = c.args.fixed in
-    let names = c.args.names.now in
+    let k = c.args.environment.now.fixed in
+    let names = c.args.environment.now.names.now in
     let line = c.statement.inside.at.line in
     let same : assigned k names line c.in-Assign.path c.get.result.now c.args.code.now ≡ code_simple k names c.args.outside c.args.statement.now c.args.code.now =
     ap (λ v. assigned k names line c.in-Assign.path v c.args.code.now) c.get.ensures
@@ -19,6 +19,6 @@ returns-in-Assign-clause-code c =
 
 pub returns-in_default : goal.returns-in_default
 returns-in_default c = record {
-  code = other_is c.args.fixed c.args.names.now c.args.outside (mark c.statement.inside.at) c.statement.inside.form c.args.statement.now c.args.code.now c.statement.view_is c.in_default.not-Assign c.in_default.not-Exit c.in_default.not-ExitWhen c.in_default.not-Put;
+  code = other_is c.args.environment.now.fixed c.args.environment.now.names.now c.args.outside (mark c.statement.inside.at) c.statement.inside.form c.args.statement.now c.args.code.now c.statement.view_is c.in_default.not-Assign c.in_default.not-Exit c.in_default.not-ExitWhen c.in_default.not-Put;
   next = omega arith;
 }
