@@ -21,8 +21,8 @@ use Rattle.ir_build.specs.Does.{Does, TestDoes}
 use Rattle.ir_build.specs.Keeps.{Named, Site, variables_of}
 use Rattle.ir_build.specs.Tokens.{tokens_in, nodes_in}
 
--- The code of an expression that is built gives its value or raises its exception at the line, at a cost of `factor` for each of its units. That of a
--- condition tells whether it holds.
+-- The code of an expression that is built gives its value or raises its exception at the line, at a cost of at most `factor` for each of its units, and
+-- `spare` for an exception. That of a condition tells whether it holds.
 abbrev pub ExpressionsDo : Type 0
 ExpressionsDo = (x : Site) (calls : Calls) (depth line : ℕ) (e : Of r-expr) → is_built (variables_of x.names) e ≡ true → (code : Code) → x.low ≤ code.next → Does x calls (evaluate Store by_copying x.turns depth [] line e) code (code_expr x.fixed x.names line e code)
 

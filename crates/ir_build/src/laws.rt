@@ -6,13 +6,14 @@ pub fn expressions_do()
     ensures conditions { ConditionsDo }
 {}
 
-/// It may stand wherever the variables are known, its values are in order, and it is at most so much.
+/// It may stand wherever the variables are known, its values are in order, and it defines and weighs
+/// at most 12 for each token.
 pub fn expressions_fit()
     ensures expressions { ExpressionsFit }
     ensures conditions { ConditionsFit }
 {}
 
-/// It changes its own values alone.
+/// It changes its own values alone, and defines at most 6 for each node.
 pub fn expressions_add()
     ensures expressions { ExpressionsAdd }
     ensures conditions { ConditionsAdd }
