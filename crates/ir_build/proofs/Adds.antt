@@ -22,11 +22,12 @@ use Rattle.ir_code.specs.Laws.{raised_unless}
 use Rattle.ir_code.specs.Pieces.{constant, compute, load, raise_unless}
 use Rattle.ir_code.specs.declared.code.Code.{Code}
 use Rattle.ir_code.proofs.Running.{runs_in_order, raise_runs}
-use Rattle.tu_token.specs.Rules.{r-expr, r-or, r-and, r-not, r-compare, r-sum, r-term, r-prefix, r-power, r-primary, r-path, many}
+use Rattle.tu_token.specs.Rules.{r-expr, r-compare, r-sum, r-term, r-prefix, r-primary, r-path, many}
 use Rattle.tu_token.specs.Syntax.{Of}
 use Rattle.tu_expr.specs.Parts.{Part, text_of}
 use Rattle.tu_expr.specs.Views.{signed, multiplied}
-use Rattle.tu_expr.specs.Forms.{NoMore, More, Expr, Or, And, Not, Compare, Related, Sum, Term, Prefix, Power, Added, Subtracted, Multiplied, Divided, Reduced, NumberValue, TrueValue, FalseValue, PathValue, Brackets, TextValue, NilValue, Path}
+use Rattle.tu_expr.specs.Levels.{OnlyCompare, OnlySum, OnlyPrimary}
+use Rattle.tu_expr.specs.Forms.{NoMore, More, Compare, Related, Sum, Term, Prefix, Power, Added, Subtracted, Multiplied, Divided, Reduced, NumberValue, TrueValue, FalseValue, PathValue, Brackets, TextValue, NilValue, Path}
 use Rattle.tu_meaning.specs.Values.{variable_of}
 use Rattle.tu_value.specs.Comparisons.{Comparison, comparison_of}
 use Rattle.tu_value.specs.Meets.{OnlyFrom}
@@ -34,7 +35,7 @@ use Rattle.tu_value.specs.Pieces.{with_piece, literal_code, fetch_code, sum_code
 use Rattle.tu_value.specs.declared.pieces.Fixed.{Fixed}
 use Rattle.tu_value.proofs.Outcomes.{unchanged, also}
 use Rattle.ir_build.specs.Keeps.{Named}
-use Rattle.ir_build.specs.Code.{Made, number_of, literal_of, named, fetched, plus, minus, times, tested, code_expr, code_or, code_and, code_not, code_compare, code_sum, code_terms, code_term, code_factors, code_prefix, code_power, code_primary, code_path, test_compare, test_not, test_and, test_or, test_expr}
+use Rattle.ir_build.specs.Code.{Made, number_of, literal_of, named, fetched, plus, minus, times, tested, code_expr, code_sum, code_terms, code_term, code_factors, code_prefix, code_primary, code_path, test_compare, test_expr}
 use Rattle.ir_build.specs.Tokens.{nodes_in}
 use Rattle.ir_build.specs.Laws.{Adds, ExpressionsAdd, ConditionsAdd}
 
@@ -211,14 +212,10 @@ module _ (k : Fixed) (names : List Named) (line : ℕ) where
     primary_added (TextValue m text parts) h code = nothing_added (6 * nodes_in (TextValue m text parts)) code
     primary_added (NilValue m word left path right) h code = nothing_added (6 * nodes_in (NilValue m word left path right)) code
 
-    -- A power's own node, and those of a factor and a term, are left for the values of the operator before it.
-    power_added : (e : Of r-power) → height e ≤ n → (code : Code) (most : ℕ) → 6 * nodes_in e ≤ most + 6 → Adding most code (code_power k names line e code).code
-    power_added (Power m y NoMore) h code most le = adding_more (primary_added y (omega (arith, h)) code) (omega (arith, le))
-    power_added (Power m y (More z zs)) h code most le = nothing_added most code
-
+    -- The nodes of a factor itself, as that of a term, are left for the values of the operator before it.
     prefix_added : (e : Of r-prefix) → height e ≤ n → (code : Code) (most : ℕ) → 6 * nodes_in e ≤ most + 12 → Adding most code (code_prefix k names line e code).code
-    prefix_added (Prefix m NoMore y) h code most le = power_added y (omega (arith, h)) code most (omega (arith, le))
-    prefix_added (Prefix m (More z zs) y) h code most le = nothing_added most code
+    prefix_added (OnlyPrimary m a y) h code most le = adding_more (primary_added y (omega (arith, h)) code) (omega (arith, le))
+    prefix_added other h code most le = nothing_added most code
 
     factors_added : (more : Part (many multiplied)) → height more ≤ n → {code : Code} (x : Made) (a : ℕ) → Adding a code x.code → Adding (a + 6 * nodes_in more) code (code_factors k names line x more).code
     factors_added NoMore h x a added = adding_more added (omega arith)
@@ -251,25 +248,9 @@ module _ (k : Fixed) (names : List Named) (line : ℕ) where
     sum_added (Sum m first more) h code =
         adding_more (terms_added more (omega (arith, h)) (code_term k names line first code) (6 * nodes_in first) (term_added first (omega (arith, h)) code (6 * nodes_in first) (omega arith))) (omega arith)
 
-    compare_added : (e : Of r-compare) → height e ≤ n → (code : Code) → Adding (6 * nodes_in e) code (code_compare k names line e code).code
-    compare_added (Compare m y NoMore) h code = adding_more (sum_added y (omega (arith, h)) code) (omega arith)
-    compare_added (Compare m y (More z zs)) h code = nothing_added (6 * nodes_in (Compare m y (More z zs))) code
-
-    not_added : (e : Of r-not) → height e ≤ n → (code : Code) → Adding (6 * nodes_in e) code (code_not k names line e code).code
-    not_added (Not m NoMore y) h code = adding_more (compare_added y (omega (arith, h)) code) (omega arith)
-    not_added (Not m (More z zs) y) h code = nothing_added (6 * nodes_in (Not m (More z zs) y)) code
-
-    and_added : (e : Of r-and) → height e ≤ n → (code : Code) → Adding (6 * nodes_in e) code (code_and k names line e code).code
-    and_added (And m y NoMore) h code = adding_more (not_added y (omega (arith, h)) code) (omega arith)
-    and_added (And m y (More z zs)) h code = nothing_added (6 * nodes_in (And m y (More z zs))) code
-
-    or_added : (e : Of r-or) → height e ≤ n → (code : Code) → Adding (6 * nodes_in e) code (code_or k names line e code).code
-    or_added (Or m y NoMore) h code = adding_more (and_added y (omega (arith, h)) code) (omega arith)
-    or_added (Or m y (More z zs)) h code = nothing_added (6 * nodes_in (Or m y (More z zs))) code
-
     level_added : (e : Of r-expr) → height e ≤ n → (code : Code) → Adding (6 * nodes_in e) code (code_expr k names line e code).code
-    level_added (Expr m y NoMore) h code = adding_more (or_added y (omega (arith, h)) code) (omega arith)
-    level_added (Expr m y (More z zs)) h code = nothing_added (6 * nodes_in (Expr m y (More z zs))) code
+    level_added (OnlySum m a b c d y) h code = adding_more (sum_added y (omega (arith, h)) code) (omega arith)
+    level_added other h code = nothing_added (6 * nodes_in other) code
 
   below_added : (n : ℕ) (e : Of r-expr) → height e < n → (code : Code) → Adding (6 * nodes_in e) code (code_expr k names line e code).code
   below_added zero e lt = absurd (omega (arith, lt))
@@ -293,22 +274,10 @@ module _ (k : Fixed) (names : List Named) (line : ℕ) where
   test_compare_added (Compare m first NoMore) code = nothing_added (6 * nodes_in (Compare m first NoMore)) code
   test_compare_added (Compare m first (More (Related relation operand) (More x xs))) code = nothing_added (6 * nodes_in (Compare m first (More (Related relation operand) (More x xs)))) code
 
-  test_not_added : (e : Of r-not) (code : Code) → Adding (6 * nodes_in e) code (test_not k names line e code).code
-  test_not_added (Not m NoMore x) code = adding_more (test_compare_added x code) (omega arith)
-  test_not_added (Not m (More z zs) x) code = nothing_added (6 * nodes_in (Not m (More z zs) x)) code
-
-  test_and_added : (e : Of r-and) (code : Code) → Adding (6 * nodes_in e) code (test_and k names line e code).code
-  test_and_added (And m x NoMore) code = adding_more (test_not_added x code) (omega arith)
-  test_and_added (And m x (More z zs)) code = nothing_added (6 * nodes_in (And m x (More z zs))) code
-
-  test_or_added : (e : Of r-or) (code : Code) → Adding (6 * nodes_in e) code (test_or k names line e code).code
-  test_or_added (Or m x NoMore) code = adding_more (test_and_added x code) (omega arith)
-  test_or_added (Or m x (More z zs)) code = nothing_added (6 * nodes_in (Or m x (More z zs))) code
-
   -- a condition
   test_added : (e : Of r-expr) (code : Code) → Adding (6 * nodes_in e) code (test_expr k names line e code).code
-  test_added (Expr m x NoMore) code = adding_more (test_or_added x code) (omega arith)
-  test_added (Expr m x (More z zs)) code = nothing_added (6 * nodes_in (Expr m x (More z zs))) code
+  test_added (OnlyCompare m a b c x) code = adding_more (test_compare_added x code) (omega arith)
+  test_added other code = nothing_added (6 * nodes_in other) code
 
 pub expressions_add : ExpressionsAdd
 expressions_add k names line e code = adds_of (expr_added k names line e code)

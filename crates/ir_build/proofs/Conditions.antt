@@ -8,7 +8,8 @@ use Rattle.ir_code.proofs.Running.{runs_in_order}
 use Rattle.ir_code.specs.declared.code.Code.{Code}
 use Rattle.tu_token.specs.Rules.{r-expr, r-compare, r-relation}
 use Rattle.tu_token.specs.Syntax.{Of}
-use Rattle.tu_expr.specs.Forms.{NoMore, More, Expr, Or, And, Not, Compare, Related}
+use Rattle.tu_expr.specs.Forms.{NoMore, More, Compare, Related}
+use Rattle.tu_expr.specs.Levels.{OnlyCompare}
 use Rattle.tu_meaning.specs.Operators.{relate}
 use Rattle.tu_meaning.specs.Interpreter.{answered, evaluate_compare, evaluate_sum, condition, truth_of}
 use Rattle.tu_meaning.specs.Steps.{Step, give, pay, ◌>>=◌, ◌>>◌}
@@ -23,7 +24,7 @@ use Rattle.ir_build.specs.Does.{Does, TestDoes}
 use Rattle.ir_build.specs.Laws.{ExpressionsDo, ConditionsDo}
 use Rattle.ir_build.specs.Built.{is_built_sum, is_tested, is_tested_compare}
 use Rattle.ir_build.proofs.Words.{Passes, passes_next, keeps_flow, keeps_is, keeps_more, keeps_paid, keeps_give, keeps_given, keeps_grouped}
-use Rattle.ir_build.proofs.Forms.{both, expr_does, sum_built}
+use Rattle.ir_build.proofs.Forms.{no_so, both, expr_does, sum_built}
 use Rattle.ir_build.proofs.Pieces.{operators}
 
 abbrev as_it_is : How → CodeState → ℕ → Run
@@ -89,15 +90,12 @@ module _ (x : Site) (calls : Calls) (depth line : ℕ) where
       let le = a.more in
       let d = sum_built x calls depth line (operators x calls line) operand r.1 (code_sum x.fixed x.names line first code).code (omega arith) in
       tested_does line relation (comparison_of relation) (evaluate_sum Store by_copying x.turns depth [] line first) (evaluate_sum Store by_copying x.turns depth [] line operand) code (code_sum x.fixed x.names line first code) _ refl r.0 a d
-  compare_tests (Compare m first NoMore) b code low = absurd (let q : false ≡ true = b in grind (arith, q))
-  compare_tests (Compare m first (More (Related relation operand) (More z zs))) b code low = absurd (let q : false ≡ true = b in grind (arith, q))
+  compare_tests (Compare m first NoMore) b code low = no_so b
+  compare_tests (Compare m first (More (Related relation operand) (More z zs))) b code low = no_so b
 
   pub condition_does : (e : Of r-expr) → is_tested declared e ≡ true → (code : Code) → x.low ≤ code.next → TestDoes x calls (condition Store by_copying x.turns depth [] line e) code (test_expr x.fixed x.names line e code)
-  condition_does (Expr m (Or m1 (And m2 (Not m3 NoMore e) NoMore) NoMore) NoMore) b code low = compare_tests e b code low
-  condition_does (Expr m (Or m1 (And m2 (Not m3 (More z zs) e) NoMore) NoMore) NoMore) b code low = absurd (let q : false ≡ true = b in grind (arith, q))
-  condition_does (Expr m (Or m1 (And m2 e (More z zs)) NoMore) NoMore) b code low = absurd (let q : false ≡ true = b in grind (arith, q))
-  condition_does (Expr m (Or m1 e (More z zs)) NoMore) b code low = absurd (let q : false ≡ true = b in grind (arith, q))
-  condition_does (Expr m e (More z zs)) b code low = absurd (let q : false ≡ true = b in grind (arith, q))
+  condition_does (OnlyCompare m a c d e) b code low = compare_tests e b code low
+  condition_does other b code low = no_so b
 
 pub expressions_do : ExpressionsDo
 expressions_do x calls depth line e b code low = expr_does x calls depth line (operators x calls line) e b code low

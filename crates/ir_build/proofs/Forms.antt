@@ -11,13 +11,14 @@ use Rattle.ir_form.specs.Plain.{Calls}
 use Rattle.ir_form.specs.State.{State as CodeState, Run}
 use Rattle.ir_code.specs.declared.code.Code.{Code}
 use Rattle.tu_token.specs.LexFaults.{value_after}
-use Rattle.tu_token.specs.Rules.{r-expr, r-or, r-and, r-not, r-compare, r-sum, r-term, r-prefix, r-power, r-primary, many}
+use Rattle.tu_token.specs.Rules.{r-expr, r-sum, r-term, r-prefix, r-primary, many}
 use Rattle.tu_token.specs.Syntax.{Of}
 use Rattle.tu_expr.specs.Parts.{Part, text_of}
 use Rattle.tu_expr.specs.Views.{signed, multiplied}
-use Rattle.tu_expr.specs.Forms.{NoMore, More, Expr, Or, And, Not, Compare, Sum, Term, Prefix, Power, Added, Subtracted, Multiplied, Divided, Reduced, NumberValue, TrueValue, FalseValue, PathValue, Brackets, TextValue, NilValue, Path}
+use Rattle.tu_expr.specs.Levels.{OnlySum, OnlyPrimary}
+use Rattle.tu_expr.specs.Forms.{NoMore, More, Sum, Term, Prefix, Power, Added, Subtracted, Multiplied, Divided, Reduced, NumberValue, TrueValue, FalseValue, PathValue, Brackets, TextValue, NilValue, Path}
 use Rattle.tu_meaning.specs.Operators.{plus, minus, times, is_int}
-use Rattle.tu_meaning.specs.Interpreter.{answered, read, evaluate, evaluate_or, evaluate_and, evaluate_not, evaluate_compare, evaluate_sum, add, evaluate_term, multiply, evaluate_prefix, evaluate_power, evaluate_primary}
+use Rattle.tu_meaning.specs.Interpreter.{answered, read, evaluate, evaluate_sum, add, evaluate_term, multiply, evaluate_prefix, evaluate_primary}
 use Rattle.tu_meaning.specs.Steps.{State, Step, give, pay, look, ◌>>=◌, ◌>>◌}
 use Rattle.tu_meaning.specs.Store.{Store, by_copying, fetch_root}
 use Rattle.tu_meaning.specs.Values.{Value, Unset, Int, Truth, Variable, variable_of, Place, place_of}
@@ -26,16 +27,19 @@ use Rattle.tu_value.proofs.Leaves.{fetch_meets, literal_meets}
 use Rattle.tu_value.specs.Words.{word_of, IsSmall}
 use Rattle.tu_value.specs.Pieces.{literal_code, fetch_code, sum_code, difference_code, product_code, more_code, less_code}
 use Rattle.ir_build.specs.Keeps.{factor, Named, Site, word_at, IsStored, Holds, Post, Keeps, Gives}
-use Rattle.ir_build.specs.Code.{plus as code_plus, minus as code_minus, fetched as code_fetched, Made, with_value, number_of, literal_of, code_expr, code_or, code_and, code_not, code_compare, code_sum, code_terms, code_term, code_factors, code_prefix, code_power, code_primary}
-use Rattle.ir_build.specs.Built.{is_built, is_built_or, is_built_and, is_built_not, is_built_compare, is_built_sum, are_built_terms, is_built_term, are_built_factors, is_built_prefix, is_built_power, is_built_primary}
+use Rattle.ir_build.specs.Code.{plus as code_plus, minus as code_minus, fetched as code_fetched, Made, with_value, number_of, literal_of, code_expr, code_sum, code_terms, code_term, code_factors, code_prefix, code_primary}
+use Rattle.ir_build.specs.Built.{is_built, is_built_sum, are_built_terms, is_built_term, are_built_factors, is_built_prefix, is_built_primary}
 use Rattle.ir_build.specs.Does.{Does}
 use Rattle.ir_build.proofs.Words.{keeps_paid, keeps_give, keeps_raise, keeps_look, keeps_given, keeps_grouped}
 use Rattle.ir_build.proofs.States.{fixed_above, Found, find, lies_of}
 use Rattle.ir_build.proofs.Values.{after_piece, world_of, Operator, Shortcut, IsNumber, DoesFrom, does_then, does_no_more, does_operator, does_shortcut}
 
+pub no_so : {A : Type 0} → false ≡ true → A
+no_so e = absurd (let q : false ≡ true = e in grind (arith, q))
+
 pub both : (a b : Bool) → (a && b) ≡ true → (a ≡ true) × (b ≡ true)
 both true b e = (refl, e)
-both false b e = absurd (let q : false ≡ true = e in grind (arith, q))
+both false b e = no_so e
 
 -- an operand is nothing but a number, or it is not
 pub data Operand (x : Of r-term) : Type 0 where
@@ -185,20 +189,16 @@ module _ (x : Site) (calls : Calls) (depth line : ℕ) where
       primary_does (PathValue m (Path mp root NoMore)) h b code low =
           let f = find (variable_of root) x.names b in
           subst (λ z. Does x calls (evaluate_primary Store by_copying t depth [] line (PathValue m (Path mp root NoMore))) code (code_fetched x.fixed x.names line code z)) (sym f.is) (variable_does m mp root f code low)
-      primary_does (PathValue m (Path mp root (More z zs))) h b code low = absurd (let q : false ≡ true = b in grind (arith, q))
+      primary_does (PathValue m (Path mp root (More z zs))) h b code low = no_so b
       primary_does (Brackets m left e right) h b code low = inner e (omega (arith, h)) b code low
-      primary_does (TrueValue m word) h b code low = absurd (let q : false ≡ true = b in grind (arith, q))
-      primary_does (FalseValue m word) h b code low = absurd (let q : false ≡ true = b in grind (arith, q))
-      primary_does (TextValue m text parts) h b code low = absurd (let q : false ≡ true = b in grind (arith, q))
-      primary_does (NilValue m word left path right) h b code low = absurd (let q : false ≡ true = b in grind (arith, q))
-
-      power_does : (e : Of r-power) → height e ≤ n → is_built_power declared e ≡ true → Of_ (evaluate_power Store by_copying t depth [] line e) (code_power x.fixed x.names line e)
-      power_does (Power m y NoMore) h b code low = primary_does y (omega (arith, h)) b code low
-      power_does (Power m y (More z zs)) h b code low = absurd (let q : false ≡ true = b in grind (arith, q))
+      primary_does (TrueValue m word) h b code low = no_so b
+      primary_does (FalseValue m word) h b code low = no_so b
+      primary_does (TextValue m text parts) h b code low = no_so b
+      primary_does (NilValue m word left path right) h b code low = no_so b
 
       prefix_does : (e : Of r-prefix) → height e ≤ n → is_built_prefix declared e ≡ true → Of_ (evaluate_prefix Store by_copying t depth [] line e) (code_prefix x.fixed x.names line e)
-      prefix_does (Prefix m NoMore y) h b code low = power_does y (omega (arith, h)) b code low
-      prefix_does (Prefix m (More z zs) y) h b code low = absurd (let q : false ≡ true = b in grind (arith, q))
+      prefix_does (OnlyPrimary m a y) h b code low = primary_does y (omega (arith, h)) b code low
+      prefix_does other h b code low = no_so b
 
       factors_do : (more : Part (many multiplied)) → height more ≤ n → are_built_factors declared more ≡ true → (base : ℕ) (from : Made) → x.low ≤ from.code.next → base ≤ from.code.next → from.value < from.code.next → DoesFrom x calls base (λ v. multiply Store by_copying t depth [] line v more) from (code_factors x.fixed x.names line from more)
       factors_do NoMore h b base from low le lv = does_no_more base from lv
@@ -208,8 +208,8 @@ module _ (x : Site) (calls : Calls) (depth line : ℕ) where
           let le1 = a.more in
           does_operator base line 6 7 times ◌*ℤ◌ (product_code x.fixed line) (evaluate_prefix Store by_copying t depth [] line operand) (λ z. multiply Store by_copying t depth [] line z more) from (code_prefix x.fixed x.names line operand from.code) _ (λ c d. refl) o.product low le lv (omega arith) a
           (factors_do more (omega (arith, h)) q.1 base _ (omega arith) (omega arith) (omega arith))
-      factors_do (More (Divided word operand) more) h b base from low le lv = absurd (let q : false ≡ true = b in grind (arith, q))
-      factors_do (More (Reduced word operand) more) h b base from low le lv = absurd (let q : false ≡ true = b in grind (arith, q))
+      factors_do (More (Divided word operand) more) h b base from low le lv = no_so b
+      factors_do (More (Reduced word operand) more) h b base from low le lv = no_so b
 
       term_does : (e : Of r-term) → height e ≤ n → is_built_term declared e ≡ true → Of_ (evaluate_term Store by_copying t depth [] line e) (code_term x.fixed x.names line e)
       term_does (Term m first more) h b code low =
@@ -234,25 +234,9 @@ module _ (x : Site) (calls : Calls) (depth line : ℕ) where
           let le = a.more in
           does_then a (terms_do more (omega (arith, h)) q.1 code.next (code_term x.fixed x.names line first code) (omega arith) le a.value)
 
-      compare_does : (e : Of r-compare) → height e ≤ n → is_built_compare declared e ≡ true → Of_ (evaluate_compare Store by_copying t depth [] line e) (code_compare x.fixed x.names line e)
-      compare_does (Compare m y NoMore) h b code low = let a = sum_does y (omega (arith, h)) b code low in does_then a (does_no_more code.next _ a.value)
-      compare_does (Compare m y (More z zs)) h b code low = absurd (let q : false ≡ true = b in grind (arith, q))
-
-      not_does : (e : Of r-not) → height e ≤ n → is_built_not declared e ≡ true → Of_ (evaluate_not Store by_copying t depth [] line e) (code_not x.fixed x.names line e)
-      not_does (Not m NoMore y) h b code low = compare_does y (omega (arith, h)) b code low
-      not_does (Not m (More z zs) y) h b code low = absurd (let q : false ≡ true = b in grind (arith, q))
-
-      and_does : (e : Of r-and) → height e ≤ n → is_built_and declared e ≡ true → Of_ (evaluate_and Store by_copying t depth [] line e) (code_and x.fixed x.names line e)
-      and_does (And m y NoMore) h b code low = not_does y (omega (arith, h)) b code low
-      and_does (And m y (More z zs)) h b code low = absurd (let q : false ≡ true = b in grind (arith, q))
-
-      or_does : (e : Of r-or) → height e ≤ n → is_built_or declared e ≡ true → Of_ (evaluate_or Store by_copying t depth [] line e) (code_or x.fixed x.names line e)
-      or_does (Or m y NoMore) h b code low = and_does y (omega (arith, h)) b code low
-      or_does (Or m y (More z zs)) h b code low = absurd (let q : false ≡ true = b in grind (arith, q))
-
       level_does : (e : Of r-expr) → height e ≤ n → is_built declared e ≡ true → Of_ (evaluate Store by_copying t depth [] line e) (code_expr x.fixed x.names line e)
-      level_does (Expr m y NoMore) h b code low = or_does y (omega (arith, h)) b code low
-      level_does (Expr m y (More z zs)) h b code low = absurd (let q : false ≡ true = b in grind (arith, q))
+      level_does (OnlySum m a b c d y) h e code low = let f = sum_does y (omega (arith, h)) e code low in does_then f (does_no_more code.next _ f.value)
+      level_does other h b code low = no_so b
 
     below_does : (n : ℕ) (e : Of r-expr) → height e < n → is_built declared e ≡ true → Of_ (evaluate Store by_copying t depth [] line e) (code_expr x.fixed x.names line e)
     below_does zero e lt = absurd (omega (arith, lt))

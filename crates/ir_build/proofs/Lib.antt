@@ -1,17 +1,19 @@
+-- for the crates above
 pub mod Words
 pub mod States
 pub mod Values
 pub mod Forms
-pub mod Pieces
 pub mod Conditions
 pub mod Tokens
 pub mod Fits
 pub mod Regions
 pub mod Operations
 pub mod Makes
-pub mod Entries
-pub mod Digits
 pub mod Operators
 pub mod Operands
-pub mod Compares
-pub mod Adds
+-- of this crate alone
+mod Pieces
+mod Entries
+mod Digits
+mod Compares
+mod Adds

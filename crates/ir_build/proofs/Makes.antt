@@ -8,11 +8,12 @@ use Rattle.ir_form.specs.declared.unit.Unit.{Unit as RegionUnit}
 use Rattle.ir_form.specs.Valid.{Scope}
 use Rattle.ir_form.specs.Tests.{contains}
 use Rattle.ir_code.specs.declared.code.Code.{Code}
-use Rattle.tu_token.specs.Rules.{r-expr, r-or, r-and, r-not, r-compare, r-sum, r-term, r-prefix, r-power, r-primary, r-path, many}
+use Rattle.tu_token.specs.Rules.{r-expr, r-compare, r-sum, r-term, r-prefix, r-primary, r-path, many}
 use Rattle.tu_token.specs.Syntax.{Of}
 use Rattle.tu_expr.specs.Parts.{Part, text_of}
 use Rattle.tu_expr.specs.Views.{signed, multiplied}
-use Rattle.tu_expr.specs.Forms.{NoMore, More, Expr, Or, And, Not, Compare, Related, Sum, Term, Prefix, Power, Added, Subtracted, Multiplied, Divided, Reduced, NumberValue, TrueValue, FalseValue, PathValue, Brackets, TextValue, NilValue, Path}
+use Rattle.tu_expr.specs.Levels.{OnlyCompare, OnlySum, OnlyPrimary}
+use Rattle.tu_expr.specs.Forms.{NoMore, More, Compare, Related, Sum, Term, Added, Subtracted, Multiplied, Divided, Reduced, NumberValue, TrueValue, FalseValue, PathValue, Brackets, TextValue, NilValue, Path}
 use Rattle.tu_meaning.specs.Values.{Variable, variable_of}
 use Rattle.tu_value.specs.Pieces.{literal_code, fetch_code, sum_code, difference_code, product_code, more_code, less_code}
 use Rattle.tu_value.specs.Comparisons.{Comparison, comparison_of}
@@ -20,7 +21,7 @@ use Rattle.tu_value.specs.declared.pieces.Fixed.{Fixed}
 use Rattle.ir_build.specs.Keeps.{Named}
 use Rattle.ir_build.specs.Behind.{behind, SeesAll, Grows, addresses, known, Makes, Tests}
 use Rattle.ir_build.specs.Laws.{ExpressionsFit, ConditionsFit}
-use Rattle.ir_build.specs.Code.{Made, Tested, no_code, no_test, number_of, literal_of, named, fetched, plus, minus, times, tested, code_expr, code_or, code_and, code_not, code_compare, code_sum, code_terms, code_term, code_factors, code_prefix, code_power, code_primary, code_path, test_compare, test_not, test_and, test_or, test_expr}
+use Rattle.ir_build.specs.Code.{Made, Tested, no_code, no_test, number_of, literal_of, named, fetched, plus, minus, times, tested, code_expr, code_sum, code_terms, code_term, code_factors, code_prefix, code_primary, code_path, test_compare, test_expr}
 use Rattle.ir_build.proofs.States.{some_inj, none_is_some}
 use Rattle.ir_build.specs.Tokens.{tokens_in}
 use Rattle.ir_build.proofs.Tokens.{one_token}
@@ -118,13 +119,9 @@ module _ (u : RegionUnit) (r : Routine) (k : Fixed) (names : List Named) where
       primary_made (TextValue m text parts) h code = nothing_made (12 * tokens_in (TextValue m text parts)) code
       primary_made (NilValue m word left path right) h code = nothing_made (12 * tokens_in (NilValue m word left path right)) code
 
-      power_made : (e : Of r-power) → height e ≤ n → (code : Code) → Makes u r k names (12 * tokens_in e) code (code_power k names line e code)
-      power_made (Power m y NoMore) h code = makes_more (primary_made y (omega (arith, h)) code) (omega arith)
-      power_made (Power m y (More z zs)) h code = nothing_made (12 * tokens_in (Power m y (More z zs))) code
-
       prefix_made : (e : Of r-prefix) → height e ≤ n → (code : Code) → Makes u r k names (12 * tokens_in e) code (code_prefix k names line e code)
-      prefix_made (Prefix m NoMore y) h code = makes_more (power_made y (omega (arith, h)) code) (omega arith)
-      prefix_made (Prefix m (More z zs) y) h code = nothing_made (12 * tokens_in (Prefix m (More z zs) y)) code
+      prefix_made (OnlyPrimary m a y) h code = makes_more (primary_made y (omega (arith, h)) code) (omega arith)
+      prefix_made other h code = nothing_made (12 * tokens_in other) code
 
       factors_made : (more : Part (many multiplied)) → height more ≤ n → {code : Code} {x : Made} (a : ℕ) → Makes u r k names a code x → Makes u r k names (a + 12 * tokens_in more) code (code_factors k names line x more)
       factors_made NoMore h a made = makes_more made (omega arith)
@@ -152,25 +149,9 @@ module _ (u : RegionUnit) (r : Routine) (k : Fixed) (names : List Named) where
       sum_made : (e : Of r-sum) → height e ≤ n → (code : Code) → Makes u r k names (12 * tokens_in e) code (code_sum k names line e code)
       sum_made (Sum m first more) h code = makes_more (terms_made more (omega (arith, h)) (12 * tokens_in first) (term_made first (omega (arith, h)) code)) (omega arith)
 
-      compare_made : (e : Of r-compare) → height e ≤ n → (code : Code) → Makes u r k names (12 * tokens_in e) code (code_compare k names line e code)
-      compare_made (Compare m y NoMore) h code = makes_more (sum_made y (omega (arith, h)) code) (omega arith)
-      compare_made (Compare m y (More z zs)) h code = nothing_made (12 * tokens_in (Compare m y (More z zs))) code
-
-      not_made : (e : Of r-not) → height e ≤ n → (code : Code) → Makes u r k names (12 * tokens_in e) code (code_not k names line e code)
-      not_made (Not m NoMore y) h code = makes_more (compare_made y (omega (arith, h)) code) (omega arith)
-      not_made (Not m (More z zs) y) h code = nothing_made (12 * tokens_in (Not m (More z zs) y)) code
-
-      and_made : (e : Of r-and) → height e ≤ n → (code : Code) → Makes u r k names (12 * tokens_in e) code (code_and k names line e code)
-      and_made (And m y NoMore) h code = makes_more (not_made y (omega (arith, h)) code) (omega arith)
-      and_made (And m y (More z zs)) h code = nothing_made (12 * tokens_in (And m y (More z zs))) code
-
-      or_made : (e : Of r-or) → height e ≤ n → (code : Code) → Makes u r k names (12 * tokens_in e) code (code_or k names line e code)
-      or_made (Or m y NoMore) h code = makes_more (and_made y (omega (arith, h)) code) (omega arith)
-      or_made (Or m y (More z zs)) h code = nothing_made (12 * tokens_in (Or m y (More z zs))) code
-
       level_made : (e : Of r-expr) → height e ≤ n → (code : Code) → Makes u r k names (12 * tokens_in e) code (code_expr k names line e code)
-      level_made (Expr m y NoMore) h code = makes_more (or_made y (omega (arith, h)) code) (omega arith)
-      level_made (Expr m y (More z zs)) h code = nothing_made (12 * tokens_in (Expr m y (More z zs))) code
+      level_made (OnlySum m a b c d y) h code = makes_more (sum_made y (omega (arith, h)) code) (omega arith)
+      level_made other h code = nothing_made (12 * tokens_in other) code
 
     below_made : (n : ℕ) (e : Of r-expr) → height e < n → (code : Code) → Makes u r k names (12 * tokens_in e) code (code_expr k names line e code)
     below_made zero e lt = absurd (omega (arith, lt))
@@ -210,22 +191,10 @@ module _ (u : RegionUnit) (r : Routine) (k : Fixed) (names : List Named) where
     tests_more : {a most : ℕ} {code : Code} {made : Tested} → Tests u r k names a code made → a ≤ most → Tests u r k names most code made
     tests_more m le = record { grows = grows_more m.grows le; fits = m.fits; left = m.left; right = m.right }
 
-    test_not_made : (e : Of r-not) (code : Code) → Tests u r k names (12 * tokens_in e) code (test_not k names line e code)
-    test_not_made (Not m NoMore x) code = tests_more (test_compare_made x code) (omega arith)
-    test_not_made (Not m (More z zs) x) code = nothing_tested (12 * tokens_in (Not m (More z zs) x)) code
-
-    test_and_made : (e : Of r-and) (code : Code) → Tests u r k names (12 * tokens_in e) code (test_and k names line e code)
-    test_and_made (And m x NoMore) code = tests_more (test_not_made x code) (omega arith)
-    test_and_made (And m x (More z zs)) code = nothing_tested (12 * tokens_in (And m x (More z zs))) code
-
-    test_or_made : (e : Of r-or) (code : Code) → Tests u r k names (12 * tokens_in e) code (test_or k names line e code)
-    test_or_made (Or m x NoMore) code = tests_more (test_and_made x code) (omega arith)
-    test_or_made (Or m x (More z zs)) code = nothing_tested (12 * tokens_in (Or m x (More z zs))) code
-
     -- a condition
     pub test_made : (e : Of r-expr) (code : Code) → Tests u r k names (12 * tokens_in e) code (test_expr k names line e code)
-    test_made (Expr m x NoMore) code = tests_more (test_or_made x code) (omega arith)
-    test_made (Expr m x (More z zs)) code = nothing_tested (12 * tokens_in (Expr m x (More z zs))) code
+    test_made (OnlyCompare m a b c x) code = tests_more (test_compare_made x code) (omega arith)
+    test_made other code = nothing_tested (12 * tokens_in other) code
 
 pub expressions_fit : ExpressionsFit
 expressions_fit u r k names line e code = expr_made u r k names line e code

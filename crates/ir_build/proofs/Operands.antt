@@ -1,7 +1,7 @@
 -- Operands in a list, one after the other: the code so far, and that of those still to come.
 use Rattle.std.proofs.Common.{◌≡◌, ℕ, zero, suc, ◌+◌, ◌<◌, ◌≤◌, List, [], ◌∷◌, length, drop, get_or, refl, ap, ◌∙◌, sym, arith, add-one, drop-cons}
 use Rattle.grammar.specs.Description.{Description}
-use Rattle.grammar.specs.Tree.{Mark, Node, height, n-token, n-rule, repeated}
+use Rattle.grammar.specs.Tree.{Mark, Node, height, n-rule, repeated}
 use Rattle.ir_code.specs.declared.code.Code.{Code}
 use Rattle.tu_token.specs.Rules.{r-expr, r-term, r-prefix, r-primary, r-path, many}
 use Rattle.tu_token.specs.Syntax.{Of}
@@ -13,13 +13,11 @@ use Rattle.tu_expr.specs.declared.expr.PrimaryForm.{PrimaryForm}
 use Rattle.tu_expr.specs.declared.expr.PrimaryForm.TheVariants as primary
 use Rattle.tu_expr.specs.declared.leaf.Leaf.{Leaf}
 use Rattle.tu_expr.specs.declared.path.Step.{Step}
-use Rattle.tu_expr.specs.Forms.{PathValue, Brackets}
 use Rattle.tu_expr.specs.Parts.{Part}
 use Rattle.tu_expr.specs.Views.{signed, signed_view, multiplied, multiplied_view, primary_view, path_view}
 use Rattle.tu_value.specs.declared.pieces.Fixed.{Fixed}
-use Rattle.ir_build.specs.Code.{Made, no_code, times, code_path, code_terms, code_factors, code_prefix}
+use Rattle.ir_build.specs.Code.{Made, no_code, times, signed_term, code_expr, code_path, code_terms, code_factors, code_prefix, code_primary}
 use Rattle.ir_build.specs.Keeps.{Named}
-use Rattle.ir_build.specs.Levels.{signed_term}
 use Rattle.ir_build.specs.Tokens.{tokens_in}
 
 abbrev pub terms : List (Sign × Of r-term) → Part (many signed)
@@ -76,12 +74,12 @@ module _ (k : Fixed) (names : List Named) (line : ℕ) where
   factors_at v xs i x h is same =
       ap (λ s. code_factors k names line v (factors s)) (from_place xs i x h is) ∙ ap (λ o. code_factors k names line v (factors ((o, x.1) ∷ drop (i + 1) xs))) same
 
--- what stands between operators
-pub path_alone : (e : Of r-primary) (m : Mark) (form : PrimaryForm) (path : Of r-path) → n-rule m (primary_view form) ≡ e → form ≡ primary.Path path → PathValue m path ≡ e
-path_alone e m form path is form_is = ap (λ f. n-rule m (primary_view f)) (sym form_is) ∙ is
+  -- what stands between operators
+  pub path_code : (e : Of r-primary) (code : Code) (m : Mark) (form : PrimaryForm) (path : Of r-path) → n-rule m (primary_view form) ≡ e → form ≡ primary.Path path → code_primary k names line e code ≡ code_path k names line path code
+  path_code e code m form path is form_is = ap (λ z. code_primary k names line z code) (sym is) ∙ ap (λ f. code_primary k names line (n-rule m (primary_view f)) code) form_is
 
-pub brackets_alone : (e : Of r-primary) (m : Mark) (form : PrimaryForm) (inner : Of r-expr) → n-rule m (primary_view form) ≡ e → form ≡ primary.Brackets inner → Brackets m n-token inner n-token ≡ e
-brackets_alone e m form inner is form_is = ap (λ f. n-rule m (primary_view f)) (sym form_is) ∙ is
+  pub brackets_code : (e : Of r-primary) (code : Code) (m : Mark) (form : PrimaryForm) (inner : Of r-expr) → n-rule m (primary_view form) ≡ e → form ≡ primary.Brackets inner → code_primary k names line e code ≡ code_expr k names line inner code
+  brackets_code e code m form inner is form_is = ap (λ z. code_primary k names line z code) (sym is) ∙ ap (λ f. code_primary k names line (n-rule m (primary_view f)) code) form_is
 
 -- steps behind a name
 pub steps_more : (k : Fixed) (names : List Named) (line : ℕ) (code : Code) (p : Of r-path) (m : Mark) (root : Leaf) (more : List Step) → n-rule m (path_view root more) ≡ p → (more ≡ [] → ⊥) → no_code code ≡ code_path k names line p code

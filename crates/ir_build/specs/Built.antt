@@ -3,12 +3,13 @@ use Rattle.std.specs.Prelude.{nat_le, is_some, Bool, true, false, ◌&&◌, List
 use Rattle.std.specs.List.{list_any}
 use Rattle.std.specs.Str.{bytes_eq}
 use Rattle.grammar.specs.Tree.{n-rule}
-use Rattle.tu_token.specs.Rules.{r-expr, r-or, r-and, r-not, r-compare, r-sum, r-term, r-prefix, r-power, r-primary, r-path, many}
+use Rattle.tu_token.specs.Rules.{r-expr, r-compare, r-sum, r-term, r-prefix, r-primary, r-path, many}
 use Rattle.tu_token.specs.Syntax.{Of}
 use Rattle.tu_expr.specs.Parts.{Part, text_of}
 use Rattle.tu_token.specs.LexFaults.{value_after}
 use Rattle.tu_expr.specs.Views.{signed, multiplied}
-use Rattle.tu_expr.specs.Forms.{NoMore, More, Expr, Or, And, Not, Compare, Sum, Term, Prefix, Power, Related, Added, Subtracted, Multiplied, NumberValue, PathValue, Brackets, Path}
+use Rattle.tu_expr.specs.Levels.{OnlyCompare, OnlySum, OnlyPrimary}
+use Rattle.tu_expr.specs.Forms.{NoMore, More, Compare, Sum, Term, Related, Added, Subtracted, Multiplied, NumberValue, PathValue, Brackets, Path}
 use Rattle.tu_value.specs.Comparisons.{comparison_of}
 use Rattle.tu_meaning.specs.Values.{Variable, variable_of}
 
@@ -18,24 +19,8 @@ module _ (declared : List Variable) where
 
   abbrev mutual
     pub is_built : Of r-expr → Bool
-    is_built (Expr m x NoMore) = is_built_or x
-    is_built (n-rule m other) = false
-
-    pub is_built_or : Of r-or → Bool
-    is_built_or (Or m x NoMore) = is_built_and x
-    is_built_or (n-rule m other) = false
-
-    pub is_built_and : Of r-and → Bool
-    is_built_and (And m x NoMore) = is_built_not x
-    is_built_and (n-rule m other) = false
-
-    pub is_built_not : Of r-not → Bool
-    is_built_not (Not m NoMore x) = is_built_compare x
-    is_built_not (n-rule m other) = false
-
-    pub is_built_compare : Of r-compare → Bool
-    is_built_compare (Compare m x NoMore) = is_built_sum x
-    is_built_compare (n-rule m other) = false
+    is_built (OnlySum _ _ _ _ _ x) = is_built_sum x
+    is_built other = false
 
     pub is_built_sum : Of r-sum → Bool
     is_built_sum (Sum m first more) = is_built_term first && are_built_terms more
@@ -54,12 +39,8 @@ module _ (declared : List Variable) where
     are_built_factors other = false
 
     pub is_built_prefix : Of r-prefix → Bool
-    is_built_prefix (Prefix m NoMore x) = is_built_power x
-    is_built_prefix (n-rule m other) = false
-
-    pub is_built_power : Of r-power → Bool
-    is_built_power (Power m x NoMore) = is_built_primary x
-    is_built_power (n-rule m other) = false
+    is_built_prefix (OnlyPrimary _ _ x) = is_built_primary x
+    is_built_prefix other = false
 
     pub is_built_primary : Of r-primary → Bool
     is_built_primary (NumberValue m digits) = nat_le (value_after 0 (text_of digits)) 2147483647
@@ -76,18 +57,6 @@ module _ (declared : List Variable) where
   is_tested_compare (Compare m first (More (Related relation operand) NoMore)) = is_built_sum first && (is_some (comparison_of relation) && is_built_sum operand)
   is_tested_compare other = false
 
-  abbrev pub is_tested_not : Of r-not → Bool
-  is_tested_not (Not m NoMore x) = is_tested_compare x
-  is_tested_not other = false
-
-  abbrev pub is_tested_and : Of r-and → Bool
-  is_tested_and (And m x NoMore) = is_tested_not x
-  is_tested_and other = false
-
-  abbrev pub is_tested_or : Of r-or → Bool
-  is_tested_or (Or m x NoMore) = is_tested_and x
-  is_tested_or other = false
-
   abbrev pub is_tested : Of r-expr → Bool
-  is_tested (Expr m x NoMore) = is_tested_or x
+  is_tested (OnlyCompare _ _ _ _ x) = is_tested_compare x
   is_tested other = false

@@ -6,11 +6,14 @@ use Rattle.ir_code.specs.Pieces.{choice}
 use Rattle.rv_isa.specs.declared.instr.Relation.TheVariants as machine
 use Rattle.ir_code.specs.declared.code.Code.{Code}
 use Rattle.tu_token.specs.LexFaults.{value_after}
-use Rattle.tu_token.specs.Rules.{r-expr, r-or, r-and, r-not, r-compare, r-sum, r-term, r-prefix, r-power, r-primary, r-path, many}
+use Rattle.tu_token.specs.Rules.{r-expr, r-compare, r-sum, r-term, r-prefix, r-primary, r-path, many}
 use Rattle.tu_token.specs.Syntax.{Of}
+use Rattle.tu_expr.specs.declared.expr.Sign.{Sign}
+use Rattle.tu_expr.specs.declared.expr.Sign.TheVariants as sign
 use Rattle.tu_expr.specs.Parts.{Part, text_of}
 use Rattle.tu_expr.specs.Views.{signed, multiplied}
-use Rattle.tu_expr.specs.Forms.{NoMore, More, Expr, Or, And, Not, Compare, Related, Sum, Term, Prefix, Power, Added, Subtracted, Multiplied, NumberValue, PathValue, Brackets, Path}
+use Rattle.tu_expr.specs.Forms.{NoMore, More, Compare, Related, Sum, Term, Added, Subtracted, Multiplied, NumberValue, PathValue, Brackets, Path}
+use Rattle.tu_expr.specs.Levels.{OnlyCompare, OnlySum, OnlyPrimary}
 use Rattle.tu_meaning.specs.Values.{Variable, variable_of}
 use Rattle.tu_value.specs.Pieces.{with_piece, literal_code, fetch_code, sum_code, difference_code, product_code, more_code, less_code}
 use Rattle.tu_value.specs.Comparisons.{Comparison, comparison_of}
@@ -21,6 +24,10 @@ use Rattle.ir_build.specs.Keeps.{Named}
 pub record Made : Type 0 where
   pub code : Code
   pub value : ℕ
+
+-- code with a number for its value
+abbrev pub made : Code → (value : ℕ) → Made
+made code value = record { code = code; value = value }
 
 -- so many values more, of which the value is one
 abbrev pub with_values : Code → (ℕ → List Op) → (count value : ℕ) → Made
@@ -40,7 +47,7 @@ number_of digits = min (value_after 0 digits) 2147483647
 
 -- a term that is nothing but a number
 abbrev pub literal_of : Of r-term → Option ℕ
-literal_of (Term m (Prefix _ NoMore (Power _ (NumberValue _ digits) NoMore)) NoMore) = Some (number_of (text_of digits))
+literal_of (Term m (OnlyPrimary _ _ (NumberValue _ digits)) NoMore) = Some (number_of (text_of digits))
 literal_of other = None
 
 -- a variable by its name
@@ -67,24 +74,8 @@ module _ (k : Fixed) (names : List Named) (line : ℕ) where
 
   abbrev mutual
     pub code_expr : Of r-expr → Code → Made
-    code_expr (Expr m x NoMore) code = code_or x code
+    code_expr (OnlySum _ _ _ _ _ x) code = code_sum x code
     code_expr other code = no_code code
-
-    pub code_or : Of r-or → Code → Made
-    code_or (Or m x NoMore) code = code_and x code
-    code_or other code = no_code code
-
-    pub code_and : Of r-and → Code → Made
-    code_and (And m x NoMore) code = code_not x code
-    code_and other code = no_code code
-
-    pub code_not : Of r-not → Code → Made
-    code_not (Not m NoMore x) code = code_compare x code
-    code_not other code = no_code code
-
-    pub code_compare : Of r-compare → Code → Made
-    code_compare (Compare m x NoMore) code = code_sum x code
-    code_compare other code = no_code code
 
     pub code_sum : Of r-sum → Code → Made
     code_sum (Sum m first more) code = code_terms (code_term first code) more
@@ -104,12 +95,8 @@ module _ (k : Fixed) (names : List Named) (line : ℕ) where
     code_factors x other = x
 
     pub code_prefix : Of r-prefix → Code → Made
-    code_prefix (Prefix m NoMore x) code = code_power x code
+    code_prefix (OnlyPrimary _ _ x) code = code_primary x code
     code_prefix other code = no_code code
-
-    pub code_power : Of r-power → Code → Made
-    code_power (Power m x NoMore) code = code_primary x code
-    code_power other code = no_code code
 
     pub code_primary : Of r-primary → Code → Made
     code_primary (NumberValue m digits) code = with_value code (literal_code (number_of (text_of digits)))
@@ -120,6 +107,11 @@ module _ (k : Fixed) (names : List Named) (line : ℕ) where
     pub code_path : Of r-path → Code → Made
     code_path (Path m root NoMore) code = fetched code (named (variable_of root) names)
     code_path other code = no_code code
+
+  -- a value with a term added or subtracted
+  abbrev pub signed_term : Sign → Made → Of r-term → Made
+  signed_term sign.Plus x term = plus x (literal_of term) (code_term term x.code)
+  signed_term sign.Minus x term = minus x (literal_of term) (code_term term x.code)
 
 -- code that works out two values, and how they are compared
 pub record Tested : Type 0 where
@@ -146,19 +138,7 @@ module _ (k : Fixed) (names : List Named) (line : ℕ) where
   test_compare (Compare m first (More (Related relation operand) NoMore)) code = let x = code_sum k names line first code in tested (comparison_of relation) x (code_sum k names line operand x.code)
   test_compare other code = no_test code
 
-  abbrev pub test_not : Of r-not → Code → Tested
-  test_not (Not m NoMore x) code = test_compare x code
-  test_not other code = no_test code
-
-  abbrev pub test_and : Of r-and → Code → Tested
-  test_and (And m x NoMore) code = test_not x code
-  test_and other code = no_test code
-
-  abbrev pub test_or : Of r-or → Code → Tested
-  test_or (Or m x NoMore) code = test_and x code
-  test_or other code = no_test code
-
   -- a condition, which is one comparison
   abbrev pub test_expr : Of r-expr → Code → Tested
-  test_expr (Expr m x NoMore) code = test_or x code
+  test_expr (OnlyCompare _ _ _ _ x) code = test_compare x code
   test_expr other code = no_test code

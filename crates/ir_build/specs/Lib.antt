@@ -3,7 +3,6 @@ pub mod Built
 pub mod Code
 pub mod Names
 pub mod Tokens
-pub mod Levels
 pub mod Compared
 pub mod Behind
 pub mod Does

@@ -9,14 +9,13 @@ ghost use Rattle.ir_build.specs.Tokens.{tokens_in};
 
 use crate::Environment;
 use crate::expressions::terms;
-use crate::levels::compare_of;
 use ir_code::{Code, choice};
 use ir_form::Op;
 use rv_isa::Relation;
 use sqlite_items::Items;
 use std::alloc::Global;
 use tu_base::{Line, Memory};
-use tu_expr::{Compare, Expr, RelationKind};
+use tu_expr::{Compare, Expr, RelationKind, compare_of};
 
 /// Two values, and how they are compared.
 #[derive(Clone, Copy, Debug)]
@@ -79,6 +78,7 @@ fn comparison(
 }
 
 /// Appends what works out the two sides of a condition.
+#[tactic(auto, using(crate::proofs::Operators::test_by, crate::proofs::Operators::compare_tokens))]
 pub fn condition(
     code: &mut Code,
     environment: &Environment<'_>,
@@ -90,8 +90,8 @@ pub fn condition(
     ensures next { OnOk result (code.new.next ≤ code.old.next + 12 * tokens_in expr.now) }
 {
     match compare_of(expr) {
-        None => Ok(NOT_TESTED),
-        Some(compare) => comparison(code, environment, line, compare),
+        Err(_) => Ok(NOT_TESTED),
+        Ok(compare) => comparison(code, environment, line, compare),
     }
 }
 

@@ -1,15 +1,16 @@
 // The code of an expression.
 ghost use Rattle.std.specs.Prelude.{◌≡◌, ◌+◌, ◌*◌, ◌≤◌, IfOk, OnOk};
 ghost use Rattle.grammar.specs.Tree.{height};
-ghost use Rattle.ir_build.specs.Code.{code_expr, code_path, code_prefix, code_sum, code_term};
-ghost use Rattle.ir_build.specs.Levels.{made, signed_term};
+ghost use Rattle.ir_build.specs.Code.{code_expr, code_path, code_prefix, code_primary, code_sum, code_term, made, signed_term};
 ghost use Rattle.ir_build.specs.Tokens.{tokens_in};
 
 use crate::Environment;
-use crate::levels::{literal_of, number_of, primary_of, sum_of};
+use crate::literals::{literal_of, number_of};
 use ir_code::Code;
 use tu_base::{Line, Memory};
-use tu_expr::{Expr, Multiplication, Path, Prefix, PrimaryForm, Sign, Sum, Term};
+use tu_expr::{
+    Expr, Multiplication, Path, Prefix, Primary, PrimaryForm, Sign, Sum, Term, primary_of, sum_of,
+};
 use tu_value::{difference, fetch, less, literal, more, product, sum};
 
 // Appends the reading of a variable.
@@ -34,6 +35,7 @@ fn variable(
 
 /// Appends what works out an expression, and gives the number of its value.
 #[cycle(code)]
+#[tactic(auto, using(crate::proofs::Operators::value_by, crate::proofs::Operators::sum_tokens))]
 pub fn expression(
     code: &mut Code,
     environment: &Environment<'_>,
@@ -45,8 +47,8 @@ pub fn expression(
     ensures next { OnOk result (code.new.next ≤ code.old.next + 12 * tokens_in expr.now) }
 {
     match sum_of(expr) {
-        None => Ok(0),
-        Some(sum) => terms(code, environment, line, sum),
+        Err(_) => Ok(0),
+        Ok(sum) => terms(code, environment, line, sum),
     }
 }
 
@@ -127,6 +129,7 @@ fn factors(
 
 // Appends what works out a factor.
 #[cycle(code)]
+#[tactic(auto, using(crate::proofs::Operators::factor_by, crate::proofs::Operators::primary_tokens))]
 fn factor(
     code: &mut Code,
     environment: &Environment<'_>,
@@ -138,13 +141,29 @@ fn factor(
     ensures next { OnOk result (code.new.next ≤ code.old.next + 12 * tokens_in prefix.now) }
 {
     match primary_of(prefix) {
-        None => Ok(0),
-        Some(primary) => match &primary.form {
-            PrimaryForm::Number(digits) => literal(code, number_of(digits.text.as_slice())),
-            PrimaryForm::Path(path) => variable(code, environment, line, path),
-            PrimaryForm::Brackets(inner) => expression(code, environment, line, inner.get()),
-            PrimaryForm::True | PrimaryForm::False | PrimaryForm::Text(..) | PrimaryForm::Nil(_) =>
-                Ok(0),
-        },
+        Err(_) => Ok(0),
+        Ok(primary) => operand(code, environment, line, primary),
+    }
+}
+
+// Appends what works out a number, a variable or an expression in brackets.
+#[cycle(code)]
+#[tactic(auto, using(crate::proofs::Operands::path_code, crate::proofs::Operands::brackets_code))]
+fn operand(
+    code: &mut Code,
+    environment: &Environment<'_>,
+    line: Line,
+    primary: &Primary,
+) -> Result<u32, Memory>
+    requires { code.old.next + 12 * tokens_in primary.now ≤ 4294967295 }
+    ensures made { IfOk result (λ value. made code.new value ≡ code_primary environment.now.fixed environment.now.names.now line primary.now code.old) }
+    ensures next { OnOk result (code.new.next ≤ code.old.next + 12 * tokens_in primary.now) }
+{
+    match &primary.form {
+        PrimaryForm::Number(digits) => literal(code, number_of(digits.text.as_slice())),
+        PrimaryForm::Path(path) => variable(code, environment, line, path),
+        PrimaryForm::Brackets(inner) => expression(code, environment, line, inner.get()),
+        PrimaryForm::True | PrimaryForm::False => Ok(0),
+        PrimaryForm::Text(..) | PrimaryForm::Nil(_) => Ok(0),
     }
 }

@@ -5,7 +5,7 @@ mod comparisons;
 mod environment;
 mod expressions;
 mod laws;
-mod levels;
+mod literals;
 mod names;
 
 pub use comparisons::{Tested, condition, where_tested};

@@ -8,7 +8,7 @@ use std::alloc::Global;
 use tu_base::{Kind, Line, Memory};
 
 /// Operations in their order, and the number of the next value.
-#[derive(Debug, Drop)]
+#[derive(Drop)]
 pub struct Code {
     pub ops: Items<Op>,
     pub next: u32,

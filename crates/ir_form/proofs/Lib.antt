@@ -1,13 +1,15 @@
+-- for the crates above
 pub mod Each
 pub mod Spends
-mod Steady
-pub mod Sound
-mod Rows
 pub mod Lists
 pub mod Tallies
-pub mod Onces
 pub mod Sights
-pub mod Fitting
 pub mod Decisions
-pub mod ValidLists
-pub mod ValidRows
+-- of this crate alone
+mod Steady
+mod Sound
+mod Rows
+mod Onces
+mod Fitting
+mod ValidLists
+mod ValidRows

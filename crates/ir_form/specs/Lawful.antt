@@ -1,5 +1,6 @@
 -- Lawful code: what it names is there, and no run of it is stuck.
 use Rattle.std.specs.Prelude.{◌≡◌, ◌≢◌, ℕ, zero, suc, ◌+◌, ◌<◌, ◌≤◌, List, [], ◌∷◌, ◌++◌, length, map, All, Contains, IsSomeAnd, slice_get}
+use Rattle.tu_base.specs.declared.limits.TheConstants.{MOST_GLOBAL_WORDS}
 use Rattle.rv_image.specs.Streams.{Folder}
 use Rattle.ir_form.specs.declared.plain.Plain.{Plain}
 use Rattle.ir_form.specs.declared.plain.Plain.TheVariants.{Global, Frame, Text, Call, Take, Give}
@@ -96,7 +97,7 @@ depths_of routines = map (λ (r : Routine). r.depth) routines
 
 -- what lawful code says of rooms, words, values, depths, globals and of what is named
 pub record IsSoundUnit (u : RegionUnit) : Type 0 where
-  pub globals : u.globals ≤ 4259840
+  pub globals : u.globals ≤ MOST_GLOBAL_WORDS
   pub main : IsSomeAnd (slice_get u.routines u.main) (λ r. IsMainHead (head_of r))
   pub routines : All (λ r. IsSound u.globals (length u.texts) (depths_of u.routines) (head_of r) (plains_list r.body.ops) (routine_numbers r)) u.routines
 

@@ -1,4 +1,5 @@
 ghost use Rattle.std.specs.Prelude.{◌≤◌};
+ghost use Rattle.tu_base.specs.declared.limits.TheConstants.{MOST_GLOBAL_WORDS};
 ghost use Rattle.ir_form.specs.declared.unit.Unit.{Unit as RegionUnit};
 ghost use Rattle.ir_form.specs.Lawful.{IsSoundUnit};
 ghost use Rattle.ir_form.specs.Units.{IsPaidWhereGoing, IsSteady, PaysForRounds};
@@ -18,7 +19,7 @@ pub fn going_is_paid()
 
 /// A valid unit is lawful but for what its runs do.
 pub fn valid_is_sound()
-    ensures { (unit : RegionUnit) → IsValid unit → unit.globals ≤ 4259840 → IsSoundUnit unit }
+    ensures { (unit : RegionUnit) → IsValid unit → unit.globals ≤ MOST_GLOBAL_WORDS → IsSoundUnit unit }
 {}
 
 /// A run that needs no more than it was given is the same with more other rounds.

@@ -21,7 +21,7 @@ pub struct Range {
 }
 
 /// An operation.
-#[derive(Debug, Drop)]
+#[derive(Drop)]
 #[cycle(op)]
 pub enum Op {
     Plain(Plain),
@@ -60,7 +60,7 @@ pub enum Op {
 }
 
 /// Operations in order, with the values that are handed to them and those that they give at the end.
-#[derive(Debug, Drop)]
+#[derive(Drop)]
 #[cycle(op)]
 pub struct Region {
     pub parameters: Items<u32>,
@@ -69,7 +69,7 @@ pub struct Region {
 }
 
 /// An arm of a `Case`.
-#[derive(Debug, Drop)]
+#[derive(Drop)]
 #[cycle(op)]
 pub struct Arm {
     pub ranges: Items<Range>,

@@ -103,6 +103,8 @@ module _ (k : Fixed) (names : List Named) where
         by (statement.Get stream first more) a b = refl
         by (statement.Open path name mode) a b = refl
         by (statement.Close stream) a b = refl
+        by statement.Quit a b = refl
+        by (statement.QuitWith number) a b = refl
 
   -- the operations of an arm
   pub arm_made : (outside : ℕ) (block : Of r-block) (begun body : Code) (test : Tested) (op : Op) (first : List Op) → begun ≡ inside test.code → body ≡ code_block k names outside block begun → first ≡ body.ops ++ leave 0 ∷ []

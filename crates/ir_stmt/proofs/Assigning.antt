@@ -1,12 +1,18 @@
 -- Assignments, and paths with steps.
-use Rattle.std.proofs.Common.{◌≡◌, ℕ, List, [], ◌∷◌, refl, ap, ◌∙◌, sym, Bool, Option}
+use Rattle.std.proofs.Common.{◌≡◌, ℕ, List, [], ◌∷◌, refl, ap, ◌∙◌, sym, Bool, true, false}
+use Rattle.std.specs.Prelude.{Option, Some, None, is_some}
+use Rattle.grammar.specs.Description.{rule}
 use Rattle.grammar.specs.Tree.{Mark, n-rule}
+use Rattle.ir_code.specs.Pieces.{leave, with_op}
 use Rattle.ir_code.specs.declared.code.Code.{Code}
+use Rattle.tu_token.specs.declared.class.Class.TheVariants.{SignComma, SignRange}
 use Rattle.tu_token.specs.Rules.{r-expr, r-path, r-shown, r-statement}
 use Rattle.tu_token.specs.Syntax.{Of}
 use Rattle.tu_expr.specs.declared.leaf.Leaf.{Leaf}
 use Rattle.tu_expr.specs.declared.path.Step.{Step}
 use Rattle.tu_expr.specs.Forms.{More, NoMore, Path}
+use Rattle.tu_expr.specs.Parts.{chain}
+use Rattle.tu_tree.specs.Parts.{flag}
 use Rattle.tu_expr.specs.Views.{path_view}
 use Rattle.tu_tree.specs.declared.statement.StatementForm.{StatementForm}
 use Rattle.tu_tree.specs.declared.statement.StatementForm.TheVariants.{Assign, Exit, ExitWhen, Put}
@@ -15,8 +21,8 @@ use Rattle.tu_tree.specs.StatementViews.{statement_view}
 use Rattle.tu_value.specs.declared.pieces.Fixed.{Fixed}
 use Rattle.ir_build.specs.Code.{Made, named, code_expr}
 use Rattle.ir_build.specs.Keeps.{Named}
-use Rattle.ir_stmt.specs.Code.{code_simple, stored}
-use Rattle.ir_stmt.specs.Made.{assigned}
+use Rattle.ir_stmt.specs.Code.{code_end, code_shown, code_shown_more, code_simple, stored}
+use Rattle.ir_stmt.specs.Made.{assigned, left_where}
 
 -- a statement by its form
 pub with_form : (s : Of r-statement) (m : Mark) (form other : StatementForm) → n-rule m (statement_view form) ≡ s → form ≡ other → n-rule m (statement_view other) ≡ s
@@ -66,3 +72,22 @@ module _ (k : Fixed) (names : List Named) where
     by (statement.Get stream first more) a b c d = refl
     by (statement.Open path name mode) a b c d = refl
     by (statement.Close stream) a b c d = refl
+    by statement.Quit a b c d = refl
+    by (statement.QuitWith number) a b c d = refl
+
+  module _ (outside : ℕ) (s : Of r-statement) (m : Mark) (form : StatementForm) (code : Code) (is : n-rule m (statement_view form) ≡ s) where
+    pub exit_is : form ≡ Exit → with_op code (leave outside) ≡ code_simple k names outside s code
+    exit_is form_is = ap (λ z. code_simple k names outside z code) (with_form s m form Exit is form_is)
+
+    pub exit_when_is : (e : Of r-expr) → form ≡ ExitWhen e → left_where k names outside m.line e code ≡ code_simple k names outside s code
+    exit_when_is e form_is = ap (λ z. code_simple k names outside z code) (with_form s m form (ExitWhen e) is form_is)
+
+    -- what is put without a stream, and with one
+    pub put_is : (stream : Option (Of r-expr)) (first : Of r-shown) (more : List (Of r-shown)) (is_open : Bool) → form ≡ Put stream first more is_open → is_some stream ≡ false
+        → code_end k names m.line (flag SignRange is_open) (code_shown_more k names m.line (chain SignComma (rule r-shown) more) (code_shown k names m.line first code)) ≡ code_simple k names outside s code
+    put_is None first more is_open form_is none = ap (λ z. code_simple k names outside z code) (with_form s m form (Put None first more is_open) is form_is)
+    put_is (Some x) first more is_open form_is none = absurd (cc none)
+
+    pub put_elsewhere : (stream : Option (Of r-expr)) (first : Of r-shown) (more : List (Of r-shown)) (is_open : Bool) → form ≡ Put stream first more is_open → is_some stream ≡ true → code ≡ code_simple k names outside s code
+    put_elsewhere None first more is_open form_is some = absurd (cc some)
+    put_elsewhere (Some x) first more is_open form_is some = ap (λ z. code_simple k names outside z code) (with_form s m form (Put (Some x) first more is_open) is form_is)

@@ -6,20 +6,21 @@ use Rattle.grammar.specs.Description.{rule}
 use Rattle.grammar.specs.Tree.{Mark, n-token, n-text, n-left, n-right, n-rule, n-sequence, height}
 use Rattle.tu_token.specs.declared.class.Class.TheVariants.{Number, SignAssign, SignColon, WordEnd, WordIf, WordInt, WordLoop, WordThen, WordVar}
 use Rattle.tu_token.specs.LexFaults.{value_after}
-use Rattle.tu_token.specs.Rules.{r-program, r-item, r-var, r-names, r-spec, r-block, r-elsif, r-statement, r-shown, r-invariant, r-expr, r-or, r-and, r-not, r-compare, r-relation, r-sum, r-term, r-prefix, r-power, r-primary, r-path, ◌⨟◌, many, maybe, t as lexeme}
+use Rattle.tu_token.specs.Rules.{r-program, r-item, r-var, r-names, r-spec, r-block, r-elsif, r-statement, r-shown, r-invariant, r-expr, r-compare, r-relation, r-sum, r-term, r-prefix, r-primary, r-path, ◌⨟◌, many, maybe, t as lexeme}
 use Rattle.tu_token.specs.Syntax.{Of}
+use Rattle.tu_expr.specs.Levels.{OnlyCompare, OnlySum, OnlyPrimary}
 use Rattle.tu_expr.specs.Parts.{Part, further, text_of, line_of}
 use Rattle.tu_expr.specs.Views.{signed, multiplied}
-use Rattle.tu_tree.specs.Forms.{Present, Absent, More, NoMore, Behind, Listed, Separated, Program, ItemVar, ItemStatement, CollectionDeclaration, TypedDeclaration, StartedDeclaration, Names, Spec, IntType, ValueStart, Block, BlockConst, BlockVar, BlockType, BlockBind, BlockStatement, If, Elsif, Loop, Simple, Exit, ExitWhen, Put, Shown, Expr, Or, And, Not, Compare, Related, Equal, NotEqual, Less, Greater, LessOrEqual, GreaterOrEqual, In, NotIn, Sum, Term, Prefix, Power, Added, Subtracted, Multiplied, NumberValue, PathValue, Brackets, Path}
+use Rattle.tu_tree.specs.Forms.{Present, Absent, More, NoMore, Behind, Listed, Separated, Program, ItemVar, ItemStatement, CollectionDeclaration, TypedDeclaration, StartedDeclaration, Names, Spec, IntType, ValueStart, Block, BlockConst, BlockVar, BlockType, BlockBind, BlockStatement, If, Elsif, Loop, Simple, Exit, ExitWhen, Put, Shown, Compare, Related, Equal, NotEqual, Less, Greater, LessOrEqual, GreaterOrEqual, In, NotIn, Sum, Term, Added, Subtracted, Multiplied, NumberValue, PathValue, Brackets, Path}
 use Rattle.tu_tree.specs.Parts.{separated}
 use Rattle.tu_tree.specs.TypeViews.{named}
 use Rattle.tu_tree.specs.DeclarationViews.{started}
 use Rattle.tu_tree.specs.StatementViews.{block_part, elses, simple, widths}
-use Rattle.tu_check.specs.Built.{are_times, is_comparing, is_declared, unbuilt_path, unbuilt, unbuilt_or, unbuilt_and, unbuilt_not, unbuilt_compare, unbuilt_sum, unbuilt_terms, unbuilt_term, unbuilt_factors, unbuilt_prefix, unbuilt_power, unbuilt_primary, unbuilt_comparison, unbuilt_condition_not, unbuilt_condition_and, unbuilt_condition_or, unbuilt_condition, unbuilt_width, unbuilt_shown, unbuilt_shown_more, unbuilt_plain, unbuilt_statement, unbuilt_elsifs, unbuilt_else, unbuilt_block, unbuilt_parts, unbuilt_start, unbuilt_spec, unbuilt_names, unbuilt_var, unbuilt_item, unbuilt_items, unbuilt_program, declared_after, names_in, names_of, more_names, with_names}
+use Rattle.tu_check.specs.Built.{are_times, is_comparing, is_declared, unbuilt_path, unbuilt, unbuilt_sum, unbuilt_terms, unbuilt_term, unbuilt_factors, unbuilt_prefix, unbuilt_primary, unbuilt_comparison, unbuilt_condition, unbuilt_width, unbuilt_shown, unbuilt_shown_more, unbuilt_plain, unbuilt_statement, unbuilt_elsifs, unbuilt_else, unbuilt_block, unbuilt_parts, unbuilt_start, unbuilt_spec, unbuilt_names, unbuilt_var, unbuilt_item, unbuilt_items, unbuilt_program, declared_after, names_in, names_of, more_names, with_names}
 use Rattle.tu_check.specs.Limits.{HasSmallNumbers}
 use Rattle.tu_value.specs.Comparisons.{comparison_of}
 use Rattle.tu_meaning.specs.Interpreter.{more_names as more_variables, names_of as variables_of}
-use Rattle.ir_build.specs.Built.{is_built_path, is_built, is_built_or, is_built_and, is_built_not, is_built_compare, is_built_sum, are_built_terms, is_built_term, are_built_factors, is_built_prefix, is_built_power, is_built_primary, is_tested, is_tested_or, is_tested_and, is_tested_not, is_tested_compare}
+use Rattle.ir_build.specs.Built.{is_built_path, is_built, is_built_sum, are_built_terms, is_built_term, are_built_factors, is_built_prefix, is_built_primary, is_tested, is_tested_compare}
 use Rattle.ir_stmt.specs.Built.{is_width_built, is_shown_built, are_shown_built, is_simple_built, is_statement_built, are_elsifs_built, is_otherwise_built, is_block_built, are_parts_built, are_new, with_names as with_variables, is_var_built, names_in as variables_in, is_item_built, declared_after as variables_after, are_items_built, is_program_built}
 
 both_so : {a b : Bool} → a ≡ true → b ≡ true → (a && b) ≡ true
@@ -62,24 +63,8 @@ module _ (declared : List (List ℕ)) where
 
   mutual
     value_built : (x : Of r-expr) → unbuilt declared x ≡ None → HasSmallNumbers x → is_built declared x ≡ true
-    value_built (Expr m x NoMore) b n = or_built x b n.0
-    value_built (n-rule m other) b n = absurd (cc)
-
-    or_built : (x : Of r-or) → unbuilt_or declared x ≡ None → HasSmallNumbers x → is_built_or declared x ≡ true
-    or_built (Or m x NoMore) b n = and_built x b n.0
-    or_built (n-rule m other) b n = absurd (cc)
-
-    and_built : (x : Of r-and) → unbuilt_and declared x ≡ None → HasSmallNumbers x → is_built_and declared x ≡ true
-    and_built (And m x NoMore) b n = not_built x b n.0
-    and_built (n-rule m other) b n = absurd (cc)
-
-    not_built : (x : Of r-not) → unbuilt_not declared x ≡ None → HasSmallNumbers x → is_built_not declared x ≡ true
-    not_built (Not m NoMore x) b n = compare_built x b n.1
-    not_built (n-rule m other) b n = absurd (cc)
-
-    compare_built : (x : Of r-compare) → unbuilt_compare declared x ≡ None → HasSmallNumbers x → is_built_compare declared x ≡ true
-    compare_built (Compare m x NoMore) b n = sum_built x b n.0
-    compare_built (n-rule m other) b n = absurd (cc)
+    value_built (OnlySum _ _ _ _ _ x) b n = sum_built x b n.0.0.0.1.0
+    value_built other b n = absurd (cc)
 
     sum_built : (x : Of r-sum) → unbuilt_sum declared x ≡ None → HasSmallNumbers x → is_built_sum declared x ≡ true
     sum_built (Sum m first more) b n =
@@ -105,12 +90,8 @@ module _ (declared : List (List ℕ)) where
     factors_built other t b n = absurd (cc)
 
     prefix_built : (x : Of r-prefix) → unbuilt_prefix declared x ≡ None → HasSmallNumbers x → is_built_prefix declared x ≡ true
-    prefix_built (Prefix m NoMore x) b n = power_built x b n.1
-    prefix_built (n-rule m other) b n = absurd (cc)
-
-    power_built : (x : Of r-power) → unbuilt_power declared x ≡ None → HasSmallNumbers x → is_built_power declared x ≡ true
-    power_built (Power m x NoMore) b n = primary_built x b n.0
-    power_built (n-rule m other) b n = absurd (cc)
+    prefix_built (OnlyPrimary _ _ x) b n = primary_built x b n.1.0
+    prefix_built other b n = absurd (cc)
 
     primary_built : (x : Of r-primary) → unbuilt_primary declared x ≡ None → HasSmallNumbers x → is_built_primary declared x ≡ true
     primary_built (NumberValue m digits) b n = small_number digits n
@@ -125,21 +106,9 @@ module _ (declared : List (List ℕ)) where
       both_so (sum_built first q.0 n.0) (both_so (comparing relation p.0) (sum_built second q.1 n.1.0.1))
   comparison_built (n-rule m other) b n = absurd (cc)
 
-  condition_not_built : (x : Of r-not) → unbuilt_condition_not declared x ≡ None → HasSmallNumbers x → is_tested_not declared x ≡ true
-  condition_not_built (Not m NoMore x) b n = comparison_built x b n.1
-  condition_not_built (n-rule m other) b n = absurd (cc)
-
-  condition_and_built : (x : Of r-and) → unbuilt_condition_and declared x ≡ None → HasSmallNumbers x → is_tested_and declared x ≡ true
-  condition_and_built (And m x NoMore) b n = condition_not_built x b n.0
-  condition_and_built (n-rule m other) b n = absurd (cc)
-
-  condition_or_built : (x : Of r-or) → unbuilt_condition_or declared x ≡ None → HasSmallNumbers x → is_tested_or declared x ≡ true
-  condition_or_built (Or m x NoMore) b n = condition_and_built x b n.0
-  condition_or_built (n-rule m other) b n = absurd (cc)
-
   condition_built : (x : Of r-expr) → unbuilt_condition declared x ≡ None → HasSmallNumbers x → is_tested declared x ≡ true
-  condition_built (Expr m x NoMore) b n = condition_or_built x b n.0
-  condition_built (n-rule m other) b n = absurd (cc)
+  condition_built (OnlyCompare _ _ _ _ x) b n = comparison_built x b n.0.0.0.1
+  condition_built other b n = absurd (cc)
 
   width_built : (x : Part (maybe widths)) → unbuilt_width declared x ≡ None → HasSmallNumbers x → is_width_built declared x ≡ true
   width_built Absent b n = refl

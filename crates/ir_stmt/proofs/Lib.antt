@@ -1,3 +1,4 @@
+-- of this crate alone
 mod Stores
 mod Puts
 mod Simple

@@ -23,7 +23,7 @@ use Rattle.tu_meaning.specs.Interpreter.{Flow, Next, Exits, only_next, names_of,
 use Rattle.ir_build.specs.Keeps.{Site, Holds, Post, Ends, Keeps, variables_of}
 use Rattle.ir_build.specs.Built.{is_built}
 use Rattle.ir_build.proofs.Words.{passes_next, keeps_flow, keeps_is, keeps_more, keeps_give}
-use Rattle.ir_build.proofs.Forms.{both}
+use Rattle.ir_build.proofs.Forms.{no_so, both}
 use Rattle.ir_stmt.specs.Built.{are_new, with_names, is_statement_built, is_var_built, is_item_built, are_items_built, declared_after, names_in as variables_in}
 use Rattle.ir_stmt.specs.Code.{Declared, code_statement, code_var, code_item, code_items}
 use Rattle.ir_stmt.specs.Leaves.{GoesOn, Leaves}
@@ -31,7 +31,6 @@ use Rattle.ir_stmt.proofs.Shown.{RunTime}
 use Rattle.ir_stmt.proofs.Simple.{StatementDoes}
 use Rattle.ir_stmt.proofs.Levels.{statement_does}
 use Rattle.ir_stmt.proofs.Items.{at_site, keeps_site, AreFine}
-use Rattle.ir_stmt.proofs.Wider.{no_so}
 use Rattle.ir_stmt.proofs.Starts.{holds_higher, ItemDoes, declaration_does, started_does}
 
 ends_post : {A : Type 0} (P Q : Post A) (o : Outcome Store A) {how : How} {st : CodeState} {c : ℕ} → ((a : A) (s : State Store) → P a s how st c → Q a s how st c) → Ends P o how st c → Ends Q o how st c

@@ -33,13 +33,13 @@ use Rattle.ir_build.proofs.Words.{passes_next, keeps_flow, keeps_is, keeps_more,
 use Rattle.ir_build.proofs.States.{find, fixed_above, lies_of}
 use Rattle.ir_build.proofs.Values.{then_none}
 use Rattle.ir_build.proofs.Conditions.{expressions_do}
-use Rattle.ir_build.proofs.Forms.{both}
+use Rattle.ir_build.proofs.Forms.{no_so, both}
 use Rattle.ir_stmt.specs.Built.{are_new, with_names}
 use Rattle.ir_stmt.specs.Code.{Declared, declare_code, declare_all as code_declare_all, store_all, stored, started}
 use Rattle.ir_stmt.specs.Leaves.{GoesOn, Leaves}
 use Rattle.ir_stmt.proofs.Stores.{IsOrdered, stored_holds}
 use Rattle.ir_stmt.proofs.Items.{at_site, keeps_site, IsNew, AreNew, AreFine, lie_more, declare_ops, declare_is, declare_next, declare_fine, declares_then, stores_then}
-use Rattle.ir_stmt.proofs.Wider.{no_so, AreDeclared, built_wider, names_wider, names_declared}
+use Rattle.ir_stmt.proofs.Wider.{AreDeclared, built_wider, names_wider, names_declared}
 
 -- a name that is not among those declared is new
 new_of : (y : Variable) (declared : List Variable) → not (is_declared declared y) ≡ true → IsNew y declared

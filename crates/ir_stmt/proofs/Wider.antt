@@ -4,18 +4,16 @@ use Rattle.std.specs.Prelude.{◌&&◌, ◌||◌}
 use Rattle.std.specs.Str.{bytes_eq}
 use Rattle.std.proofs.lemmas.Slice.Eq.{bytes_eq-Decides}
 use Rattle.grammar.specs.Tree.{height}
-use Rattle.tu_token.specs.Rules.{r-expr, r-or, r-and, r-not, r-compare, r-sum, r-term, r-prefix, r-power, r-primary, many}
+use Rattle.tu_token.specs.Rules.{r-expr, r-sum, r-term, r-prefix, r-primary, many}
 use Rattle.tu_token.specs.Syntax.{Of}
 use Rattle.tu_expr.specs.Parts.{Part}
 use Rattle.tu_expr.specs.Views.{signed, multiplied}
-use Rattle.tu_expr.specs.Forms.{NoMore, More, Expr, Or, And, Not, Compare, Sum, Term, Prefix, Power, Added, Subtracted, Multiplied, Divided, Reduced, NumberValue, TrueValue, FalseValue, PathValue, Brackets, TextValue, NilValue, Path}
+use Rattle.tu_expr.specs.Levels.{OnlySum, OnlyPrimary}
+use Rattle.tu_expr.specs.Forms.{NoMore, More, Sum, Term, Added, Subtracted, Multiplied, Divided, Reduced, NumberValue, TrueValue, FalseValue, PathValue, Brackets, TextValue, NilValue, Path}
 use Rattle.tu_meaning.specs.Values.{Variable, variable_of}
-use Rattle.ir_build.specs.Built.{is_declared, is_built, is_built_or, is_built_and, is_built_not, is_built_compare, is_built_sum, are_built_terms, is_built_term, are_built_factors, is_built_prefix, is_built_power, is_built_primary}
-use Rattle.ir_build.proofs.Forms.{both}
+use Rattle.ir_build.specs.Built.{is_declared, is_built, is_built_sum, are_built_terms, is_built_term, are_built_factors, is_built_prefix, is_built_primary}
+use Rattle.ir_build.proofs.Forms.{no_so, both}
 use Rattle.ir_stmt.specs.Built.{with_names}
-
-pub no_so : {A : Type 0} → false ≡ true → A
-no_so e = absurd (let q : false ≡ true = e in grind (arith, q))
 
 pub both_are : (a b : Bool) → a ≡ true → b ≡ true → (a && b) ≡ true
 both_are a b e f = ap (λ z. z && b) e ∙ f
@@ -33,13 +31,9 @@ module _ (declared wide : List Variable) (wider : (y : Variable) → is_declared
     primary_wider (TextValue m text parts) h b = no_so b
     primary_wider (NilValue m word left path right) h b = no_so b
 
-    power_wider : (e : Of r-power) → height e ≤ n → is_built_power declared e ≡ true → is_built_power wide e ≡ true
-    power_wider (Power m y NoMore) h b = primary_wider y (omega (arith, h)) b
-    power_wider (Power m y (More z zs)) h b = no_so b
-
     prefix_wider : (e : Of r-prefix) → height e ≤ n → is_built_prefix declared e ≡ true → is_built_prefix wide e ≡ true
-    prefix_wider (Prefix m NoMore y) h b = power_wider y (omega (arith, h)) b
-    prefix_wider (Prefix m (More z zs) y) h b = no_so b
+    prefix_wider (OnlyPrimary m a y) h b = primary_wider y (omega (arith, h)) b
+    prefix_wider other h b = no_so b
 
     factors_wider : (more : Part (many multiplied)) → height more ≤ n → are_built_factors declared more ≡ true → are_built_factors wide more ≡ true
     factors_wider NoMore h b = refl
@@ -68,25 +62,9 @@ module _ (declared wide : List Variable) (wider : (y : Variable) → is_declared
         let q = both (is_built_term declared first) (are_built_terms declared more) b in
         both_are (is_built_term wide first) (are_built_terms wide more) (term_wider first (omega (arith, h)) q.0) (terms_wider more (omega (arith, h)) q.1)
 
-    compare_wider : (e : Of r-compare) → height e ≤ n → is_built_compare declared e ≡ true → is_built_compare wide e ≡ true
-    compare_wider (Compare m y NoMore) h b = sum_wider y (omega (arith, h)) b
-    compare_wider (Compare m y (More z zs)) h b = no_so b
-
-    not_wider : (e : Of r-not) → height e ≤ n → is_built_not declared e ≡ true → is_built_not wide e ≡ true
-    not_wider (Not m NoMore y) h b = compare_wider y (omega (arith, h)) b
-    not_wider (Not m (More z zs) y) h b = no_so b
-
-    and_wider : (e : Of r-and) → height e ≤ n → is_built_and declared e ≡ true → is_built_and wide e ≡ true
-    and_wider (And m y NoMore) h b = not_wider y (omega (arith, h)) b
-    and_wider (And m y (More z zs)) h b = no_so b
-
-    or_wider : (e : Of r-or) → height e ≤ n → is_built_or declared e ≡ true → is_built_or wide e ≡ true
-    or_wider (Or m y NoMore) h b = and_wider y (omega (arith, h)) b
-    or_wider (Or m y (More z zs)) h b = no_so b
-
     level_wider : (e : Of r-expr) → height e ≤ n → is_built declared e ≡ true → is_built wide e ≡ true
-    level_wider (Expr m y NoMore) h b = or_wider y (omega (arith, h)) b
-    level_wider (Expr m y (More z zs)) h b = no_so b
+    level_wider (OnlySum m a b c d y) h e = sum_wider y (omega (arith, h)) e
+    level_wider other h b = no_so b
 
   below_wider : (n : ℕ) (e : Of r-expr) → height e < n → is_built declared e ≡ true → is_built wide e ≡ true
   below_wider zero e lt = absurd (omega (arith, lt))

@@ -7,7 +7,7 @@ ghost use Rattle.tu_token.specs.declared.class.Class.TheVariants.{SignComma, Sig
 ghost use Rattle.tu_expr.specs.Forms.{Behind, Present};
 ghost use Rattle.tu_expr.specs.Parts.{chain};
 ghost use Rattle.tu_tree.specs.Parts.{flag};
-ghost use Rattle.ir_build.specs.Levels.{made};
+ghost use Rattle.ir_build.specs.Code.{made};
 ghost use Rattle.ir_build.specs.Tokens.{tokens_in};
 ghost use Rattle.ir_stmt.specs.Code.{code_end, code_shown, code_shown_more, code_width};
 

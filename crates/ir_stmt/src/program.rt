@@ -1,5 +1,6 @@
 // The unit of a program.
 ghost use Rattle.std.specs.Prelude.{◌≡◌, ◌+◌, ◌*◌, ◌≤◌, IfOk, OnOk, length, true};
+ghost use Rattle.tu_base.specs.declared.limits.TheConstants.{MOST_LITERAL_BYTES, MOST_TOKENS};
 ghost use Rattle.grammar.specs.Description.{print};
 ghost use Rattle.grammar.specs.Tree.{erase};
 ghost use Rattle.ir_form.specs.Lawful.{IsLawful};
@@ -84,7 +85,7 @@ fn whole_unit(alloc: Global, code: Code, globals: u32) -> Result<Unit, Memory>
 // The unit of a program of at most 65,536 tokens whose forms are built.
 fn unit_of(alloc: Global, tree: &Tree) -> Result<Unit, Memory>
     requires built { is_program_built tree.now ≡ true }
-    requires short { length (print (erase tree.now)) ≤ 65536 }
+    requires short { length (print (erase tree.now)) ≤ MOST_TOKENS }
     ensures { IfOk result (λ unit. unit ≡ unit_of tree.now) }
 {
     let mut code = Code::new(alloc, 0);
@@ -103,7 +104,7 @@ pub fn unit(alloc: Global, checked: &Checked) -> Result<Unit, Memory>
     ensures valid { IfOk result (λ unit. IsValid unit) }
     ensures lawful { IfOk result (λ unit. IsLawful unit) }
     ensures weight { IfOk result (λ unit. unit_weight unit ≤ 1179648) }
-    ensures texts { IfOk result (λ unit. length unit.texts ≤ 1048576) }
+    ensures texts { IfOk result (λ unit. length unit.texts ≤ MOST_LITERAL_BYTES) }
 {
     accepted_has_limits();
     run_is_steady();

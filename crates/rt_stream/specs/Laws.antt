@@ -1,6 +1,7 @@
 -- What calls of the routines do.
 use Rattle.std.specs.Prelude.{◌≡◌, ℕ, suc, ◌+◌, ◌-◌, ◌*◌, ◌<◌, ◌≤◌, ◌⊎◌, List, [], ◌∷◌, ◌++◌, length, map, replicate, Some, true, slice_get, ℤ}
 use Rattle.std.specs.Fmt.{signed_decimal}
+use Rattle.tu_base.specs.declared.limits.TheConstants.{MOST_WIDTH}
 use Rattle.tu_base.specs.Trace.{Put}
 use Rattle.rv_image.specs.Streams.{traced}
 use Rattle.ir_form.specs.declared.unit.Routine.{Routine}
@@ -58,7 +59,7 @@ abbrev pub PutIntComputes : Type 0
 PutIntComputes =
     (g : Setting) (rs : List Routine) (n k a b line : ℕ) (z : ℤ) (width : ℕ) (st : State) (c : ℕ) →
     end_at g ≤ 4294967296 → slice_get rs k ≡ Some put_int_routine → st.env a ≡ Some (word_of_int z) → st.env b ≡ Some width →
-    is_int z ≡ true → width ≤ 255 → HasRoom put_int_routine st → put_int_rounds ≤ st.others →
+    is_int z ≡ true → width ≤ MOST_WIDTH → HasRoom put_int_routine st → put_int_rounds ≤ st.others →
     let bytes = padded width (signed_decimal z) in
     Puts g put_int_routine bytes (put_int_most bytes) st c (calls_within g rs (suc n) k (a ∷ b ∷ []) [] line st c)
 

@@ -1,7 +1,8 @@
-pub mod Alike
-pub mod Whole
-pub mod Slotting
-pub mod Owners
-pub mod Zips
-pub mod Room
+-- of this crate alone
+mod Alike
+mod Whole
+mod Slotting
+mod Owners
+mod Zips
+mod Room
 mod Rows

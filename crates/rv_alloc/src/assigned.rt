@@ -8,7 +8,7 @@ use rv_flat::Linear;
 use sqlite_items::Items;
 
 /// Linear code, and for each of its routines the places of the values.
-#[derive(Debug, Drop)]
+#[derive(Drop)]
 pub struct Assigned {
     linear: Linear,
     places: Items<Places>,

@@ -29,7 +29,7 @@ impl Place {
 }
 
 /// The places of a routine's values, of which each has at most one.
-#[derive(Debug, Drop)]
+#[derive(Drop)]
 pub struct Places {
     by_value: HashMap<u32, Place>,
     slots: u32,

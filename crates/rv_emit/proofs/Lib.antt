@@ -1,12 +1,13 @@
-pub mod Finding
-pub mod Zipping
-pub mod Moving
-pub mod PuttingOff
-pub mod Mixing
-pub mod Labelling
-pub mod Entries
-pub mod Routines
-pub mod Renaming
-pub mod Readying
-pub mod Ranges
-pub mod Measures
+-- of this crate alone
+mod Finding
+mod Zipping
+mod Moving
+mod PuttingOff
+mod Mixing
+mod Labelling
+mod Entries
+mod Routines
+mod Renaming
+mod Readying
+mod Ranges
+mod Measures

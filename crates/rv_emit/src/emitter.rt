@@ -1,6 +1,7 @@
 // The whole text.
 
 ghost use Rattle.std.specs.Prelude.{◌≡◌, ◌<◌, ◌≤◌, ◌++◌, IfOk, OnOk, All, length, map};
+ghost use Rattle.tu_base.specs.declared.limits.TheConstants.{MOST_TEXT_WORDS};
 ghost use Rattle.ir_form.specs.Place.{IsPlace};
 ghost use Rattle.rv_image.specs.Picture.{InRange};
 ghost use Rattle.rv_runs.specs.Stands.{codes_of};
@@ -24,11 +25,11 @@ use rv_isa::Text;
 use rv_layout::{image_agrees, image_is_allowed, text_is_measured};
 use rv_pieces::Output;
 use std::alloc::Global;
-use tu_base::Memory;
+use tu_base::{Memory, TEXT_AT};
 
 /// What an image is made of: the text, the entry in bytes from the text's start, and the number of
 /// words of globals.
-#[derive(Debug, Drop)]
+#[derive(Drop)]
 pub struct Emitted {
     pub text: Text,
     pub entry: u32,
@@ -36,12 +37,12 @@ pub struct Emitted {
 }
 
 // Where the end is asked for, behind the opening.
-const EXIT_AT: u32 = 65580;
+const EXIT_AT: u32 = TEXT_AT + 44;
 
 // What lies around the routines.
 fn push_around(out: &mut Output, assigned: &Assigned, site: &Site) -> Result<(), Memory>
     requires site { IsSite (placed_code assigned.now) site.now }
-    requires size { word_count (placed_code assigned.now) ≤ 16777216 }
+    requires size { word_count (placed_code assigned.now) ≤ MOST_TEXT_WORDS }
     ensures { OnOk result (out.new ≡ out.old ++ codes_of (around (placed_code assigned.now))) }
 {
     let main = assigned.linear().main;
@@ -113,7 +114,7 @@ fn push_routines(
 
 // The text, all numbers in which are in range.
 fn whole_text(alloc: Global, assigned: &Assigned) -> Result<Text, Memory>
-    requires { word_count (placed_code assigned.now) ≤ 16777216 }
+    requires { word_count (placed_code assigned.now) ≤ MOST_TEXT_WORDS }
     ensures text { IfOk result (λ text. text ≡ text_of (placed_code assigned.now)) }
     ensures small { OnOk result (AllSmall (routines_of assigned.now)) }
     ensures bytes { OnOk result (All (λ b. b < 256) assigned.now.linear.texts) }
@@ -131,7 +132,7 @@ fn whole_text(alloc: Global, assigned: &Assigned) -> Result<Text, Memory>
 /// tells. The image of code that is ready does what the code means. It fails only for want of
 /// memory.
 pub fn emit(alloc: Global, assigned: &Assigned) -> Result<Emitted, Memory>
-    requires { length (text_of (placed_code assigned.now)) ≤ 16777216 }
+    requires { length (text_of (placed_code assigned.now)) ≤ MOST_TEXT_WORDS }
     ensures image { IfOk result (λ emitted. picture_of emitted ≡ image_of (placed_code assigned.now)) }
     ensures in_range { IfOk result (λ emitted. IsReadyToEmit assigned.now → InRange (picture_of emitted)) }
     ensures place { IfOk result (λ emitted. IsReadyToEmit assigned.now → IsPlace (place_of_image (placed_code assigned.now)) (length assigned.now.linear.texts)) }

@@ -5,10 +5,10 @@ ghost use Rattle.rv_emit.specs.Site.{addresses_of, label_place, Passes};
 
 use rv_flat::Instruction;
 use std::collections::HashMap;
-use tu_base::Memory;
+use tu_base::{Memory, TEXT_AT};
 
 // The piece that all run-time arrays share.
-pub const SHARED_AT: u32 = 65588;
+pub const SHARED_AT: u32 = TEXT_AT + 52;
 
 // Where the first global, the first byte of the texts, and the entries and the labels of the
 // routines lie.

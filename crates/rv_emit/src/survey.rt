@@ -1,6 +1,7 @@
 // Where all things lie in the text of assigned code.
 
 ghost use Rattle.std.specs.Prelude.{◌≤◌, IfOk};
+ghost use Rattle.tu_base.specs.declared.limits.TheConstants.{MOST_TEXT_WORDS};
 ghost use Rattle.rv_alloc.specs.Assigned.{placed_code};
 ghost use Rattle.rv_emit.specs.Site.{word_count, IsSite};
 
@@ -14,7 +15,7 @@ use tu_base::Memory;
 const ROUTINES_AT: u32 = 65616;
 
 pub fn survey(alloc: Global, assigned: &Assigned) -> Result<Site, Memory>
-    requires { word_count (placed_code assigned.now) ≤ 16777216 }
+    requires { word_count (placed_code assigned.now) ≤ MOST_TEXT_WORDS }
     ensures { IfOk result (IsSite (placed_code assigned.now)) }
 {
     let mut entries = Vec::new(alloc);

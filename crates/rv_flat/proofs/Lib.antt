@@ -1,13 +1,14 @@
-pub mod Close
-pub mod Sweeps
-pub mod Runs
-pub mod Whole
-pub mod Spends
-pub mod Lists
-pub mod Sizes
-pub mod Parts
-pub mod Labels
-pub mod Words
-pub mod Takers
-pub mod Clauses
+-- of this crate alone
+mod Close
+mod Sweeps
+mod Runs
+mod Whole
+mod Spends
+mod Lists
+mod Sizes
+mod Parts
+mod Labels
+mod Words
+mod Takers
+mod Clauses
 mod Rows

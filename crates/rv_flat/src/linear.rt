@@ -6,7 +6,7 @@ use sqlite_items::Items;
 use tu_base::Bytes;
 
 /// An instruction. Values and labels go by number, and each routine numbers its own.
-#[derive(Debug, Drop)]
+#[derive(Drop)]
 pub enum Instruction {
     Plain(Plain),
     /// Goes to the label unless the relation holds.
@@ -42,7 +42,7 @@ pub enum Instruction {
 }
 
 /// A routine.
-#[derive(Debug, Drop)]
+#[derive(Drop)]
 pub struct LinearRoutine {
     pub parameters: Items<u32>,
     pub code: Items<Instruction>,
@@ -55,7 +55,7 @@ pub struct LinearRoutine {
 }
 
 /// A whole program.
-#[derive(Debug, Drop)]
+#[derive(Drop)]
 pub struct Linear {
     /// How many words of globals there are.
     pub globals: u32,
@@ -67,7 +67,7 @@ pub struct Linear {
 }
 
 /// A loop that can be left: the label behind it, and the values that it defines.
-#[derive(Debug, Drop)]
+#[derive(Drop)]
 pub struct Target {
     pub label: u64,
     pub to: Items<u32>,

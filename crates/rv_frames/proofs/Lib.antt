@@ -1,3 +1,6 @@
+-- for the crates above
+pub mod InStep
+-- of this crate alone
 mod Rows
 mod Labels
 mod Ticks
@@ -8,4 +11,3 @@ mod Routines
 mod Whole
 mod Traces
 mod Agreed
-pub mod InStep

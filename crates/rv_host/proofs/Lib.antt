@@ -1,7 +1,8 @@
-pub mod SlotLemmas
-pub mod Keeping
-pub mod Telling
-pub mod StreamServices
-pub mod Asking
-pub mod Closed
-pub mod Turns
+-- of this crate alone
+mod SlotLemmas
+mod Keeping
+mod Telling
+mod StreamServices
+mod Asking
+mod Closed
+mod Turns

@@ -1,6 +1,7 @@
 -- What a host does about a service, and what console, cabinet and streams hold of it.
 use Rattle.std.specs.Prelude.{◌≡◌, ◌≤◌, ℕ, true, false, List, [], length, nat_le, ◌==◌, if◌then◌else◌, replicate, Option, Some, None, Result, Ok, Err}
 use Rattle.std.specs.FinMap as finite
+use Rattle.tu_base.specs.declared.limits.TheConstants.{MOST_FILE_BYTES}
 use Rattle.tu_base.specs.declared.event.Event.{Event}
 use Rattle.tu_base.specs.Files.{Files}
 use Rattle.tu_base.specs.Kind.{kind_number}
@@ -67,7 +68,7 @@ Serves service before after result =
 -- the stream that is opened to read a file
 abbrev pub reading_of : List ℕ → Option (List ℕ) → Option Stream
 reading_of name None = None
-reading_of name (Some contents) = if nat_le (length contents) 16777216 then Some (Reading name contents) else None
+reading_of name (Some contents) = if nat_le (length contents) MOST_FILE_BYTES then Some (Reading name contents) else None
 
 -- the stream that is opened, where there are these files
 abbrev pub opened_of : Files → List ℕ → ℕ → Option Stream

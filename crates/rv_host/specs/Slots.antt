@@ -1,6 +1,7 @@
 -- The streams of a host, and what is done about them.
 use Rattle.std.specs.Prelude.{◌≡◌, ℕ, zero, suc, List, [], ◌∷◌, take, drop, Option, Some, None, slice_get, slice_set, length, ◌+◌, ◌++◌, nat_le, if◌then◌else◌}
 use Rattle.std.specs.Option.{option_map}
+use Rattle.tu_base.specs.declared.limits.TheConstants.{MOST_FILE_BYTES}
 use Rattle.tu_base.specs.Files.{Files}
 use Rattle.tu_base.specs.Trace.{Trace, files_of}
 use Rattle.rv_image.specs.Streams.{Stream, Free, Reading, Writing, World, Served, Replies}
@@ -52,10 +53,10 @@ after_next (Writing name contents) = Writing name contents
 
 -- the answer where bytes go to a file of these contents, and then its contents
 abbrev pub append_answer : List ℕ → List ℕ → ℕ
-append_answer contents bytes = if nat_le (length contents + length bytes) 16777216 then 0 else 2
+append_answer contents bytes = if nat_le (length contents + length bytes) MOST_FILE_BYTES then 0 else 2
 
 abbrev pub after_append : List ℕ → List ℕ → List ℕ
-after_append contents bytes = if nat_le (length contents + length bytes) 16777216 then contents ++ bytes else contents
+after_append contents bytes = if nat_le (length contents + length bytes) MOST_FILE_BYTES then contents ++ bytes else contents
 
 -- the same of a stream
 abbrev pub put_answer : Stream → List ℕ → ℕ

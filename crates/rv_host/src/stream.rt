@@ -4,11 +4,11 @@ ghost use Rattle.rv_image.specs.Streams.{Free as is_free, kept, is_named as has_
 ghost use Rattle.rv_host.specs.Slots.{shown, with_trace, next_byte, first, rest, after_next, put_answer, after_put, append_answer, after_append};
 
 use std::alloc::Global;
-use tu_base::{Bytes, Memory};
+use tu_base::{Bytes, MOST_FILE_BYTES, Memory};
 use tu_outside::{Cabinet, CabinetError};
 
 // The most bytes of a file that a stream reads or writes.
-pub const MOST: usize = 16_777_216;
+pub const MOST: usize = MOST_FILE_BYTES as usize;
 
 // One of a program's streams.
 #[derive(Drop)]
@@ -107,7 +107,7 @@ fn append(contents: &mut Bytes, bytes: &[u8]) -> Result<u32, Memory>
 }
 
 fn fits(contents: &Bytes, bytes: &[u8]) -> bool
-    ensures { result ≡ nat_le (length contents.now + length bytes.now) 16777216 }
+    ensures { result ≡ nat_le (length contents.now + length bytes.now) MOST_FILE_BYTES }
 {
     bytes.len() <= MOST && contents.len() <= MOST - bytes.len()
 }

@@ -1,3 +1,4 @@
-pub mod Words
-pub mod RoundTrip
+-- of this crate alone
+mod Words
+mod RoundTrip
 mod Rows

@@ -1,5 +1,6 @@
 -- What bytes are read as.
 use Rattle.std.specs.Prelude.{◌≡◌, ℕ, ◌+◌, ◌*◌, ◌%◌, List, [], ◌∷◌, length, drop, slice_index, Result, Ok, Err, ◌==◌, nat_lt, ◌&&◌, not, if◌then◌else◌}
+use Rattle.tu_base.specs.declared.limits.TheConstants.{MOST_GLOBAL_WORDS}
 use Rattle.rv_image.specs.Picture.{Picture}
 use Rattle.rv_image.specs.declared.image.ImageError.{ImageError}
 use Rattle.rv_image.specs.declared.image.ImageError.TheVariants.{Size, Short, Magic, Version, Length, Entry, Globals, Memory}
@@ -44,7 +45,7 @@ reading bytes =
     else if not (number_at bytes 4 == 1) then Err Version
     else if not (length bytes == 20 + 4 * text_words bytes) then Err Length
     else if not (entry_offset bytes % 4 == 0 && nat_lt (entry_offset bytes) (4 * text_words bytes)) then Err Entry
-    else if nat_lt 4259840 (global_words bytes) then Err Globals
+    else if nat_lt MOST_GLOBAL_WORDS (global_words bytes) then Err Globals
     else Ok (picture bytes)
 
 -- what was answered is what is read, unless memory ran out

@@ -5,6 +5,7 @@ use Rattle.std.specs.Char.{is_ascii_alphanumeric}
 use Rattle.std.specs.Ordering.{nat_cmp, eq_by_cmp}
 use Rattle.std.specs.Cmp.Lexicographic.{slice_cmp}
 use Rattle.std.specs.FinMap as finite
+use Rattle.tu_base.specs.declared.limits.TheConstants.{MOST_FILE_BYTES}
 use Rattle.tu_base.specs.Files.{Files}
 use Rattle.tu_base.specs.Trace.{Put, Got, AtEnd, Keep, Trace, files_of}
 use Rattle.rv_isa.specs.Memory.{Memory, byte_at}
@@ -99,7 +100,7 @@ free_stream (Writing name contents ∷ streams) i = free_stream streams (i + 1)
 
 abbrev pub reads : World → ℕ → List ℕ → Option (List ℕ) → Served
 reads w i name None = Replies 0 w
-reads w i name (Some contents) = if nat_le (length contents) 16777216 then Replies i (with_stream w i (Reading name contents)) else Replies 0 w
+reads w i name (Some contents) = if nat_le (length contents) MOST_FILE_BYTES then Replies i (with_stream w i (Reading name contents)) else Replies 0 w
 
 abbrev pub opens_at : Folder → World → ℕ → List ℕ → ℕ → Served
 opens_at Closed w i name mode = Replies 0 w
@@ -121,7 +122,7 @@ abbrev pub puts : World → ℕ → List ℕ → Stream → Served
 puts w i bytes Free = Replies 1 w
 puts w i bytes (Reading name left) = Replies 1 w
 puts w i bytes (Writing name contents) =
-    if nat_le (length contents + length bytes) 16777216 then Replies 0 (with_stream w i (Writing name (contents ++ bytes))) else Replies 2 w
+    if nat_le (length contents + length bytes) MOST_FILE_BYTES then Replies 0 (with_stream w i (Writing name (contents ++ bytes))) else Replies 2 w
 
 abbrev pub gets : World → ℕ → Stream → Served
 gets w i Free = Replies no_byte w

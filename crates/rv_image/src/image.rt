@@ -6,7 +6,7 @@ use rv_isa::Text;
 use std::alloc::Global;
 use std::marker::Model;
 use thiserror::Error;
-use tu_base::{Bytes, Memory};
+use tu_base::{Bytes, MOST_GLOBAL_WORDS, MOST_TEXT_WORDS, Memory};
 
 /// Why bytes are no image: the first of these conditions that fails, in this order.
 #[derive(Clone, Copy, PartialEq, Eq, Debug, Error)]
@@ -129,7 +129,7 @@ impl Image {
 }
 
 // In bytes, as the header's size.
-const LARGEST_SIZE: usize = 67108884;
+const LARGEST_SIZE: usize = HEADER_SIZE + 4 * MOST_TEXT_WORDS as usize;
 
 const HEADER_SIZE: usize = 20;
 
@@ -137,8 +137,6 @@ const HEADER_SIZE: usize = 20;
 const MAGIC: u32 = 0x4952_5554;
 
 const VERSION: u32 = 1;
-
-const MOST_GLOBALS: u32 = 4259840;
 
 // A number in four bytes, the lowest first.
 fn number_bytes(value: u32) -> [u8; 4]
@@ -197,7 +195,7 @@ fn image_of(alloc: Global, bytes: &[u8]) -> Result<Image, ImageError>
         return Err(ImageError::Entry);
     }
     let global_words = read_number(bytes, 12);
-    if global_words > MOST_GLOBALS {
+    if global_words > MOST_GLOBAL_WORDS {
         return Err(ImageError::Globals);
     }
     let words = read_text(alloc, bytes, text_words)?;

@@ -1,5 +1,6 @@
 -- One instruction.
 use Rattle.std.specs.Prelude.{ℕ, ◌+◌, ◌-◌, ◌*◌, ◌/◌, ◌%◌, ◌^◌, Bool, ◌==◌, nat_le, ◌&&◌, ◌||◌, if◌then◌else◌, List, length, slice_get, Option, Some, None}
+use Rattle.tu_base.specs.declared.limits.TheConstants.{MOST_LENT_BYTES, TEXT_AT}
 use Rattle.rv_isa.specs.declared.instr.Instr.{Instr}
 use Rattle.rv_isa.specs.declared.instr.Instr.TheVariants.{Lui, Auipc, Jal, Jalr, Branch, Load, Store, Immediate, Shift, Register, Fence, Ecall, Ebreak}
 use Rattle.rv_isa.specs.declared.instr.LoadKind.{LoadKind}
@@ -31,7 +32,7 @@ pub record Space : Type 0 where
   pub end : ℕ
 
 abbrev pub text_end : Space → ℕ
-text_end s = 65536 + 4 * length s.text
+text_end s = TEXT_AT + 4 * length s.text
 
 -- what an instruction comes to
 pub data Outcome : Type 0 where
@@ -63,7 +64,7 @@ lies from to a size = nat_le from a && nat_le (a + size) to
 
 abbrev pub loads_at : Space → Cpu → LoadKind → ℕ → ℕ → Outcome
 loads_at s c kind r a =
-    if a % load_size kind == 0 then (if lies 65536 s.end a (load_size kind) then gives c r (loaded kind c.memory a) else Faults Address c)
+    if a % load_size kind == 0 then (if lies TEXT_AT s.end a (load_size kind) then gives c r (loaded kind c.memory a) else Faults Address c)
     else Faults Misaligned c
 
 abbrev pub stores_at : Space → Cpu → StoreKind → ℕ → ℕ → Outcome
@@ -75,7 +76,7 @@ stores_at s c kind a v =
 
 -- The bytes of a service are at most 1,048,576 and wholly in memory. None of them are so at every address.
 abbrev pub lends : Space → ℕ → ℕ → Bool
-lends s at size = nat_le size 1048576 && ((size == 0) || lies 65536 s.end at size)
+lends s at size = nat_le size MOST_LENT_BYTES && ((size == 0) || lies TEXT_AT s.end at size)
 
 abbrev pub accepted : Bool → Service → Option Service
 accepted b what = if b then Some what else None
@@ -116,7 +117,7 @@ execute s Ebreak c = Faults Break c
 
 -- the word at a place of the text, and none outside it
 abbrev pub fetched : Space → ℕ → Option ℕ
-fetched s pc = if nat_le 65536 pc && (pc % 4 == 0) then slice_get s.text ((pc - 65536) / 4) else None
+fetched s pc = if nat_le TEXT_AT pc && (pc % 4 == 0) then slice_get s.text ((pc - TEXT_AT) / 4) else None
 
 abbrev pub performs : Space → Option Instr → Cpu → Outcome
 performs s None c = Faults Illegal c

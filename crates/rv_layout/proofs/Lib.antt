@@ -1,3 +1,4 @@
+-- of this crate alone
 mod Rows
 mod Example
 mod Held

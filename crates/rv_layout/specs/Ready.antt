@@ -2,6 +2,7 @@
 use Rattle.std.specs.Prelude.{◌≡◌, ℕ, ◌+◌, ◌/◌, ◌%◌, ◌<◌, ◌≤◌, length, All}
 use Rattle.std.specs.Int.{w32}
 use Rattle.std.specs.Int.RustNames.{FitsSigned}
+use Rattle.tu_base.specs.declared.limits.TheConstants.{MOST_TEXT_WORDS}
 use Rattle.ir_form.specs.declared.plain.Plain.{Plain as PlainOp}
 use Rattle.ir_form.specs.declared.plain.Plain.TheVariants.{Constant, Call, Raise, Take}
 use Rattle.ir_form.specs.declared.op.Range.{Range}
@@ -53,4 +54,4 @@ pub record IsReady (l : Linear) : Type 0 where
   pub sound : IsSoundLinear l
   pub routines : All IsReadyRoutine l.routines
   pub texts : All (λ b. b < 256) l.texts
-  pub size : length (text_of l) ≤ 16777216
+  pub size : length (text_of l) ≤ MOST_TEXT_WORDS

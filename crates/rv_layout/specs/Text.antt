@@ -1,5 +1,6 @@
 -- The text of a program: what lies around, the routines, and the literals.
 use Rattle.std.specs.Prelude.{ℕ, ◌+◌, ◌*◌, ◌/◌, List, [], ◌∷◌, ◌++◌, length, map, take}
+use Rattle.tu_base.specs.declared.limits.TheConstants.{TEXT_AT}
 use Rattle.rv_isa.specs.declared.instr.Instr.{Instr}
 use Rattle.rv_isa.specs.Encoding.{encoding}
 use Rattle.rv_image.specs.Picture.{Picture}
@@ -15,7 +16,7 @@ use Rattle.rv_layout.specs.Lengths.{routine_length, routines_length, label_offse
 
 -- the text begins here
 abbrev pub text_at : ℕ
-text_at = 65536
+text_at = TEXT_AT
 
 -- The opening has 11 words, the request for the end 2, and the piece that all run-time arrays share 7.
 abbrev pub exit_at : ℕ

@@ -1,5 +1,6 @@
-pub mod Texts
-pub mod Steps
-pub mod Bytes
-pub mod Runs
-pub mod Start
+-- of this crate alone
+mod Texts
+mod Steps
+mod Bytes
+mod Runs
+mod Start

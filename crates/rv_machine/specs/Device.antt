@@ -1,5 +1,6 @@
 -- The machine as its callers see it.
 use Rattle.std.specs.Prelude.{◌≡◌, ℕ, ◌+◌, ◌*◌, ◌<◌, ◌≤◌, List, [], length, Option, Some, None, IfSome}
+use Rattle.tu_base.specs.declared.limits.TheConstants.{TEXT_AT}
 use Rattle.rv_isa.specs.declared.instr.Instr.{Instr}
 use Rattle.rv_isa.specs.declared.service.Service.{Service}
 use Rattle.rv_isa.specs.declared.service.Service.TheVariants.{End, Stop, PutConsole, GetConsole, Open, Close, PutStream, GetStream, State}
@@ -32,8 +33,8 @@ cpu_of d = cpu_at d.registers d.bytes d.pc
 pub record IsSound (entries : List (Option Instr)) (words : ℕ) (bytes : List ℕ) (waiting : Option Service) : Type 0 where
   pub decoded : IsDecoded entries (text_in words (memory_of bytes))
   pub text : 4 * words ≤ length bytes
-  pub memory : 65536 + length bytes < 4294967296
-  pub lent : IfSome waiting (λ what. IsLent (65536 + length bytes) what)
+  pub memory : TEXT_AT + length bytes < 4294967296
+  pub lent : IfSome waiting (λ what. IsLent (TEXT_AT + length bytes) what)
 
 -- where the machine is at rest
 abbrev pub came : Pause → Device → Rest

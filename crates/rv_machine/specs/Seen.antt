@@ -1,5 +1,6 @@
 -- What the results of the functions stand for.
 use Rattle.std.specs.Prelude.{◌≡◌, ◌+◌, ◌*◌, ◌<◌, ◌≤◌, ℕ, nat_le, if◌then◌else◌, List, [], length, map, Option, Some, slice_get, option_map}
+use Rattle.tu_base.specs.declared.limits.TheConstants.{TEXT_AT}
 use Rattle.rv_isa.specs.declared.instr.Instr.{Instr}
 use Rattle.rv_isa.specs.declared.service.Service.{Service}
 use Rattle.rv_isa.specs.declared.service.Service.TheVariants.{End, Stop, PutConsole, GetConsole, Open, Close, PutStream, GetStream, State}
@@ -39,7 +40,7 @@ kept taken text = if nat_le (taken + 12 * length text) 134496256 then map decodi
 
 -- the bytes lie in memory, or there are none of them
 abbrev pub Within : ℕ → ℕ → ℕ → Type 0
-Within end at size = (0 < size → 65536 ≤ at) × (0 < size → at + size ≤ end)
+Within end at size = (0 < size → TEXT_AT ≤ at) × (0 < size → at + size ≤ end)
 
 -- the bytes of a service lie in memory
 abbrev pub IsLent : ℕ → Service → Type 0

@@ -8,6 +8,7 @@ ghost use Rattle.rv_machine.specs.Seen.{seen, AsksBelow, IsLent};
 use crate::registers::get;
 use crate::stepped::Stepped;
 use rv_isa::{FaultKind, Service};
+use tu_base::{MOST_LENT_BYTES, TEXT_AT};
 
 // Whether bytes lie between two places.
 #[inline]
@@ -21,7 +22,7 @@ pub fn is_within(from: u32, to: u32, at: u32, size: u32) -> bool
 fn is_lent(end: u32, at: u32, length: u32) -> bool
     ensures { result ≡ lends (record { text = []; end = end }) at length }
 {
-    length <= 1048576 && (length == 0 || is_within(65536, end, at, length))
+    length <= MOST_LENT_BYTES && (length == 0 || is_within(TEXT_AT, end, at, length))
 }
 
 #[inline]
@@ -69,12 +70,12 @@ fn service(registers: &[u32; 32], end: u32) -> Option<Service>
 // An ECALL.
 pub fn ask(registers: &[u32; 32], memory: &[u8], pc: u32) -> Stepped
     requires place { pc + 4 < 4294967296 }
-    requires end { 65536 + length memory.now < 4294967296 }
-    ensures asks { AsksBelow result pc (65536 + length memory.now) }
+    requires end { TEXT_AT + length memory.now < 4294967296 }
+    ensures asks { AsksBelow result pc (TEXT_AT + length memory.now) }
     ensures is { seen result (cpu_at registers.now memory.now pc)
-        ≡ asks (cpu_at registers.now memory.now pc) (asked (record { text = []; end = 65536 + length memory.now }) (registers_of registers.now)) }
+        ≡ asks (cpu_at registers.now memory.now pc) (asked (record { text = []; end = TEXT_AT + length memory.now }) (registers_of registers.now)) }
 {
-    match service(registers, 65536 + memory.len() as u32) {
+    match service(registers, TEXT_AT + memory.len() as u32) {
         Some(service) => Stepped::Asks(service),
         None => Stepped::Faults(FaultKind::Service),
     }

@@ -13,6 +13,7 @@ use crate::memory::{load, load_size, store, store_size};
 use crate::registers::{get, put};
 use crate::stepped::Stepped;
 use rv_isa::{FaultKind, ImmediateOp, Instr, LoadKind, RegisterOp, Relation, ShiftOp, StoreKind};
+use tu_base::TEXT_AT;
 
 // The sum of a register and an offset.
 #[inline(always)]
@@ -128,10 +129,10 @@ fn load_from(
     requires rd { rd < 32 }
     requires rs1 { rs1 < 32 }
     requires place { pc + 4 < 4294967296 }
-    requires end { 65536 + length memory.now < 4294967296 }
-    ensures asks { AsksBelow result pc (65536 + length memory.now) }
+    requires end { TEXT_AT + length memory.now < 4294967296 }
+    ensures asks { AsksBelow result pc (TEXT_AT + length memory.now) }
     ensures is { seen result (cpu_at registers.new memory.now pc)
-        ≡ loads_at (record { text = []; end = 65536 + length memory.now }) (cpu_at registers.old memory.now pc) kind rd
+        ≡ loads_at (record { text = []; end = TEXT_AT + length memory.now }) (cpu_at registers.old memory.now pc) kind rd
         ((registers_of registers.old rs1 + offset) % 2 ^ 32) }
 {
     let at = place(registers, rs1, offset);
@@ -139,7 +140,7 @@ fn load_from(
     if at % size != 0 {
         return Stepped::Faults(FaultKind::Misaligned);
     }
-    if !is_within(65536, 65536 + memory.len() as u32, at, size) {
+    if !is_within(TEXT_AT, TEXT_AT + memory.len() as u32, at, size) {
         return Stepped::Faults(FaultKind::Address);
     }
     goes(rd, load(kind, memory, at), pc + 4, registers)
@@ -160,8 +161,8 @@ fn store_to(
     requires rs2 { rs2 < 32 }
     requires place { pc + 4 < 4294967296 }
     requires text { 4 * words ≤ length memory.old }
-    requires end { 65536 + length memory.old < 4294967296 }
-    ensures asks { AsksBelow result pc (65536 + length memory.old) }
+    requires end { TEXT_AT + length memory.old < 4294967296 }
+    ensures asks { AsksBelow result pc (TEXT_AT + length memory.old) }
     ensures is { seen result (cpu_at registers.now memory.new pc)
         ≡ stores_at (space_at words memory.old) (cpu_at registers.now memory.old pc) kind at (registers_of registers.now rs2) }
 {
@@ -169,7 +170,7 @@ fn store_to(
     if at % size != 0 {
         return Stepped::Faults(FaultKind::Misaligned);
     }
-    if !is_within(65536 + 4 * words, 65536 + memory.len() as u32, at, size) {
+    if !is_within(TEXT_AT + 4 * words, TEXT_AT + memory.len() as u32, at, size) {
         return Stepped::Faults(FaultKind::Address);
     }
     store(kind, memory, at, get(registers, rs2));
@@ -188,8 +189,8 @@ pub fn run_one(
     requires fits { Fits op }
     requires place { pc + 4 < 4294967296 }
     requires text { 4 * words ≤ length memory.old }
-    requires end { 65536 + length memory.old < 4294967296 }
-    ensures asks { AsksBelow result pc (65536 + length memory.old) }
+    requires end { TEXT_AT + length memory.old < 4294967296 }
+    ensures asks { AsksBelow result pc (TEXT_AT + length memory.old) }
     ensures is { seen result (cpu_at registers.new memory.new pc)
         ≡ execute (space_at words memory.old) op (cpu_at registers.old memory.old pc) }
 {

@@ -1,6 +1,7 @@
 // What a machine begins with.
 
 ghost use Rattle.std.specs.Prelude.{◌≡◌, ◌<◌, ◌≤◌, ◌+◌, ◌*◌, ℕ, IfOk, length, slice_index};
+ghost use Rattle.tu_base.specs.declared.limits.TheConstants.{MOST_TEXT_WORDS};
 ghost use Rattle.rv_isa.specs.Step.{with_any};
 ghost use Rattle.rv_image.specs.Start.{start_memory, no_registers};
 ghost use Rattle.rv_machine.specs.Lists.{memory_of, registers_of, text_in};
@@ -21,7 +22,7 @@ const _: () = prove!(size_of::<Option<Instr>>() == ENTRY);
 
 // The decoded text, or nothing where that does not fit beside the bytes that are taken.
 pub fn decoded(alloc: Global, words: &[u32], taken: usize) -> Result<Vec<Option<Instr>>, AllocError>
-    requires text { length words.now ≤ 16777216 }
+    requires text { length words.now ≤ MOST_TEXT_WORDS }
     requires taken { taken < 4294967296 }
     ensures is { IfOk result (λ v. v.items ≡ kept taken words.now) }
     ensures decoded { IfOk result (λ v. IsDecoded v.items words.now) }

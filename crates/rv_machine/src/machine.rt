@@ -15,7 +15,7 @@ use rv_image::Image;
 use rv_isa::{Instr, Service};
 use std::alloc::Global;
 use std::marker::Model;
-use tu_base::Memory;
+use tu_base::{HEAP_WORDS, Memory, STACK_WORDS, TEXT_AT};
 
 /// A machine with its program.
 #[derive(Drop)]
@@ -48,10 +48,10 @@ impl Machine {
     {
         let text = image.text().as_slice();
         let words = text.len() as u32;
-        let globals_at = 65536 + 4 * words;
+        let globals_at = TEXT_AT + 4 * words;
         let heap_at = globals_at + 4 * image.globals();
-        let end = heap_at + 50348032;
-        let size = (end - 65536) as usize;
+        let end = heap_at + 4 * (HEAP_WORDS + STACK_WORDS);
+        let size = (end - TEXT_AT) as usize;
         let memory = memory_with(alloc, text, size)?;
         let decoded = decoded(alloc, text, size)?;
         Ok(Machine {
@@ -59,7 +59,7 @@ impl Machine {
             words,
             memory,
             registers: registers_at(globals_at, heap_at, end),
-            pc: 65536 + image.entry(),
+            pc: TEXT_AT + image.entry(),
             counted: 0,
             waiting: None,
         })
@@ -140,13 +140,13 @@ impl Machine {
     }
 
     fn part(&self, at: u32, size: u32) -> &[u8]
-        requires { Within (65536 + length self.now.bytes) at size }
+        requires { Within (TEXT_AT + length self.now.bytes) at size }
         ensures { result.now ≡ bytes_at (memory_of self.now.bytes) at size }
     {
         if size == 0 {
             return &[];
         }
-        let from = (at - 65536) as usize;
+        let from = (at - TEXT_AT) as usize;
         &self.memory[from..from + size as usize]
     }
 }

@@ -5,6 +5,7 @@ ghost use Rattle.rv_isa.specs.Memory.{load_size, store_size, loaded, stored, byt
 ghost use Rattle.rv_machine.specs.Lists.{memory_of};
 
 use rv_isa::{LoadKind, StoreKind};
+use tu_base::TEXT_AT;
 
 #[inline]
 pub fn load_size(kind: LoadKind) -> u32
@@ -34,7 +35,7 @@ pub fn store_size(kind: StoreKind) -> u32
 #[tactic(auto, unfolding(crate::specs::Lists::memory_of))]
 fn byte(bytes: &[u8], at: usize, after: usize) -> u32
     requires { at + after < length bytes.now }
-    ensures is { result ≡ byte_at (memory_of bytes.now) (at + 65536 + after) }
+    ensures is { result ≡ byte_at (memory_of bytes.now) (at + TEXT_AT + after) }
     ensures below { result < 256 }
 {
     bytes[at + after] as u32
@@ -43,7 +44,7 @@ fn byte(bytes: &[u8], at: usize, after: usize) -> u32
 #[inline]
 fn half(bytes: &[u8], at: usize) -> u32
     requires { at + 2 ≤ length bytes.now }
-    ensures is { result ≡ half_at (memory_of bytes.now) (at + 65536) }
+    ensures is { result ≡ half_at (memory_of bytes.now) (at + TEXT_AT) }
     ensures below { result < 65536 }
 {
     byte(bytes, at, 0) + 256 * byte(bytes, at, 1)
@@ -52,7 +53,7 @@ fn half(bytes: &[u8], at: usize) -> u32
 #[inline]
 pub fn word(bytes: &[u8], at: usize) -> u32
     requires { at + 4 ≤ length bytes.now }
-    ensures { result ≡ word_at (memory_of bytes.now) (at + 65536) }
+    ensures { result ≡ word_at (memory_of bytes.now) (at + TEXT_AT) }
 {
     byte(bytes, at, 0)
         + 256 * byte(bytes, at, 1)
@@ -62,11 +63,11 @@ pub fn word(bytes: &[u8], at: usize) -> u32
 
 #[inline]
 pub fn load(kind: LoadKind, bytes: &[u8], address: u32) -> u32
-    requires start { 65536 ≤ address }
-    requires end { address + load_size kind ≤ 65536 + length bytes.now }
+    requires start { TEXT_AT ≤ address }
+    requires end { address + load_size kind ≤ TEXT_AT + length bytes.now }
     ensures { result ≡ loaded kind (memory_of bytes.now) address }
 {
-    let at = (address - 65536) as usize;
+    let at = (address - TEXT_AT) as usize;
     match kind {
         LoadKind::Byte => ((byte(bytes, at, 0) + 128) % 256).wrapping_sub(128),
         LoadKind::Half => ((half(bytes, at) + 32768) % 65536).wrapping_sub(32768),
@@ -81,7 +82,7 @@ pub fn load(kind: LoadKind, bytes: &[u8], address: u32) -> u32
 fn put_byte(bytes: &mut [u8], at: usize, after: usize, value: u32)
     requires end { at + after < length bytes.old }
     requires value { value < 256 }
-    ensures { memory_of bytes.new ≡ with_byte (memory_of bytes.old) (at + 65536 + after) value }
+    ensures { memory_of bytes.new ≡ with_byte (memory_of bytes.old) (at + TEXT_AT + after) value }
 {
     bytes[at + after] = value as u8;
 }
@@ -89,7 +90,7 @@ fn put_byte(bytes: &mut [u8], at: usize, after: usize, value: u32)
 #[inline]
 fn put_half(bytes: &mut [u8], at: usize, value: u32)
     requires { at + 2 ≤ length bytes.old }
-    ensures { memory_of bytes.new ≡ with_half (memory_of bytes.old) (at + 65536) value }
+    ensures { memory_of bytes.new ≡ with_half (memory_of bytes.old) (at + TEXT_AT) value }
 {
     put_byte(bytes, at, 0, value % 256);
     put_byte(bytes, at, 1, value / 256 % 256);
@@ -98,7 +99,7 @@ fn put_half(bytes: &mut [u8], at: usize, value: u32)
 #[inline]
 pub fn put_word(bytes: &mut [u8], at: usize, value: u32)
     requires { at + 4 ≤ length bytes.old }
-    ensures { memory_of bytes.new ≡ with_word (memory_of bytes.old) (at + 65536) value }
+    ensures { memory_of bytes.new ≡ with_word (memory_of bytes.old) (at + TEXT_AT) value }
 {
     put_half(bytes, at, value);
     put_byte(bytes, at, 2, value / 65536 % 256);
@@ -108,11 +109,11 @@ pub fn put_word(bytes: &mut [u8], at: usize, value: u32)
 // Stores the low bytes of a value.
 #[inline]
 pub fn store(kind: StoreKind, bytes: &mut [u8], address: u32, value: u32)
-    requires start { 65536 ≤ address }
-    requires end { address + store_size kind ≤ 65536 + length bytes.old }
+    requires start { TEXT_AT ≤ address }
+    requires end { address + store_size kind ≤ TEXT_AT + length bytes.old }
     ensures { memory_of bytes.new ≡ stored kind (memory_of bytes.old) address value }
 {
-    let at = (address - 65536) as usize;
+    let at = (address - TEXT_AT) as usize;
     match kind {
         StoreKind::Byte => put_byte(bytes, at, 0, value % 256),
         StoreKind::Half => put_half(bytes, at, value),

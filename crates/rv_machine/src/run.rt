@@ -1,6 +1,7 @@
 // Many instructions.
 
 ghost use Rattle.std.specs.Prelude.{◌≡◌, ◌<◌, ◌≤◌, ◌+◌, ◌*◌, length};
+ghost use Rattle.tu_base.specs.declared.limits.TheConstants.{TEXT_AT};
 ghost use Rattle.rv_image.specs.Steps.{steps};
 ghost use Rattle.rv_machine.specs.Lists.{memory_of, text_in, space_at, cpu_at};
 ghost use Rattle.rv_machine.specs.Seen.{IsDecoded, Grows, RestsWell, rested};
@@ -37,11 +38,11 @@ pub fn run(
 ) -> Halt
     requires decoded { IsDecoded decoded.now (text_in words (memory_of memory.old)) }
     requires text { 4 * words ≤ length memory.old }
-    requires end { 65536 + length memory.old < 4294967296 }
+    requires end { TEXT_AT + length memory.old < 4294967296 }
     requires count { counted + most < 18446744073709551616 }
     ensures count { result.count ≤ counted + most }
     ensures grows { Grows result.cause counted result.count }
-    ensures lent { RestsWell result.cause (65536 + length memory.old) }
+    ensures lent { RestsWell result.cause (TEXT_AT + length memory.old) }
     ensures text { text_in words (memory_of memory.new) ≡ text_in words (memory_of memory.old) }
     ensures is { rested result registers.new memory.new ≡ steps (space_at words memory.old) most counted (cpu_at registers.old memory.old start) }
 {

@@ -1,3 +1,4 @@
+-- for the crates above
 pub mod Stretches
 pub mod Comes
 pub mod Places

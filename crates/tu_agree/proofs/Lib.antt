@@ -1,8 +1,9 @@
-pub mod Compose
-pub mod Ends
-pub mod Everywhere
-pub mod Halting
-pub mod Paid
+-- of this crate alone
+mod Compose
+mod Ends
+mod Everywhere
+mod Halting
+mod Paid
 mod Rows
-pub mod Whole
-pub mod Writing
+mod Whole
+mod Writing

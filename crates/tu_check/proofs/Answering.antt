@@ -2,9 +2,9 @@
 use Rattle.std.proofs.Common.{◌≡◌, ℕ, ◌<◌, ◌≤◌, Bool, true, false, List, length, refl, ap, ◌∙◌, sym, subst, arith, inl, inr, ◌⊎◌}
 use Rattle.std.specs.Prelude.{Option, Some, None, nat_le}
 use Rattle.tu_token.specs.declared.fault.LexError.{LexError}
-use Rattle.tu_token.specs.declared.fault.Refusal.{Refusal}
-use Rattle.tu_token.specs.declared.fault.Refusal.TheVariants.{Size, Lexical, Syntax, Types}
-use Rattle.tu_token.specs.declared.fault.TypeError.TheVariants.{NotBuilt}
+use Rattle.tu_check.specs.declared.refusal.Refusal.{Refusal}
+use Rattle.tu_check.specs.declared.refusal.Refusal.TheVariants.{Size, Lexical, Syntax, Types}
+use Rattle.tu_check.specs.declared.refusal.TypeError.TheVariants.{NotBuilt}
 use Rattle.tu_token.specs.Lexemes.{IsLexed}
 use Rattle.tu_token.specs.LexFaults.{HasNoFault, IsLexFault}
 use Rattle.tu_token.specs.Rules.{r-program}

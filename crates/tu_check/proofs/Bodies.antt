@@ -1,15 +1,18 @@
 -- Statements: what tells of each form, and of the parts of one with blocks.
-use Rattle.std.proofs.Common.{◌≡◌, ℕ, Bool, true, List, refl, ap, ◌∙◌, sym}
+use Rattle.std.proofs.Common.{◌≡◌, ℕ, Bool, true, if◌then◌else◌, List, refl, ap, ◌∙◌, sym}
 use Rattle.std.specs.Prelude.{Option, Some, None}
 use Rattle.std.specs.Option.{option_or}
+use Rattle.grammar.specs.Description.{rule}
 use Rattle.grammar.specs.Tree.{Mark, n-rule}
-use Rattle.tu_token.specs.Rules.{r-expr, r-block, r-elsif, r-statement, r-invariant}
+use Rattle.tu_token.specs.declared.class.Class.TheVariants.{SignComma}
+use Rattle.tu_token.specs.Rules.{r-expr, r-block, r-elsif, r-statement, r-invariant, r-path, r-shown}
 use Rattle.tu_token.specs.Syntax.{Of}
+use Rattle.tu_expr.specs.Parts.{chain}
 use Rattle.tu_tree.specs.declared.statement.BlockPart.{BlockPart}
 use Rattle.tu_tree.specs.declared.statement.StatementForm.{StatementForm}
 use Rattle.tu_tree.specs.declared.statement.StatementForm.TheVariants as statement
 use Rattle.tu_tree.specs.StatementViews.{block_part_view, block_view, else_view, statement_view}
-use Rattle.tu_check.specs.Built.{unbuilt_block, unbuilt_condition, unbuilt_elsif, unbuilt_else, unbuilt_part, unbuilt_plain, unbuilt_statement}
+use Rattle.tu_check.specs.Built.{unbuilt_block, unbuilt_condition, unbuilt_elsif, unbuilt_else, unbuilt_part, unbuilt_plain, unbuilt_shown, unbuilt_shown_more, unbuilt_statement}
 use Rattle.tu_check.proofs.Lists.{first_of, elsifs_first, parts_first}
 
 module _ (declared : List (List ℕ)) (is_inside : Bool) where
@@ -76,3 +79,54 @@ module _ (declared : List (List ℕ)) (is_inside : Bool) where
       by (statement.Get stream first more) h k = refl
       by (statement.Open path name mode) h k = refl
       by (statement.Close stream) h k = refl
+      by statement.Quit h k = refl
+      by (statement.QuitWith number) h k = refl
+
+    -- a statement without a block
+    pub plain_says : (f : StatementForm) → form ≡ f → unbuilt_plain declared is_inside s ≡ unbuilt_plain declared is_inside (n-rule m (statement_view f))
+    plain_says f form_is = ap (unbuilt_plain declared is_inside) (sym is) ∙ ap (λ g. unbuilt_plain declared is_inside (n-rule m (statement_view g))) form_is
+
+    -- exit: in a loop, or not
+    pub exit_says : form ≡ statement.Exit → unbuilt_plain declared is_inside s ≡ if is_inside then None else Some m.line
+    exit_says form_is = plain_says statement.Exit form_is
+
+    pub exit_when_says : (condition : Of r-expr) → form ≡ statement.ExitWhen condition → unbuilt_plain declared is_inside s ≡ if is_inside then unbuilt_condition declared condition else Some m.line
+    exit_when_says condition form_is = plain_says (statement.ExitWhen condition) form_is
+
+    -- put: over a stream, or not
+    pub put_says : (stream : Option (Of r-expr)) (first : Of r-shown) (more : List (Of r-shown)) (is_open : Bool) → form ≡ statement.Put stream first more is_open → stream ≡ None →
+        unbuilt_plain declared is_inside s ≡ option_or (unbuilt_shown declared first) (unbuilt_shown_more declared (chain SignComma (rule r-shown) more))
+    put_says None first more is_open form_is none = plain_says (statement.Put None first more is_open) form_is
+    put_says (Some x) first more is_open form_is none = absurd (cc)
+
+    pub put_to_stream : (stream : Option (Of r-expr)) (first : Of r-shown) (more : List (Of r-shown)) (is_open : Bool) (x : Of r-expr) → form ≡ statement.Put stream first more is_open → stream ≡ Some x → unbuilt_plain declared is_inside s ≡ Some m.line
+    put_to_stream None first more is_open x form_is some = absurd (cc)
+    put_to_stream (Some y) first more is_open x form_is some = plain_says (statement.Put (Some y) first more is_open) form_is
+
+    -- each other form
+    pub rest_says : ((path : Of r-path) (value : Of r-expr) → form ≡ statement.Assign path value → ⊥) → (form ≡ statement.Exit → ⊥) → ((condition : Of r-expr) → form ≡ statement.ExitWhen condition → ⊥)
+        → ((stream : Option (Of r-expr)) (first : Of r-shown) (more : List (Of r-shown)) (is_open : Bool) → form ≡ statement.Put stream first more is_open → ⊥) → unbuilt_plain declared is_inside s ≡ Some m.line
+    rest_says not_assign not_exit not_exit_when not_put = sym (ap (unbuilt_plain declared is_inside) is) ∙ by form not_assign not_exit not_exit_when not_put where
+      by : (f : StatementForm) → ((path : Of r-path) (value : Of r-expr) → f ≡ statement.Assign path value → ⊥) → (f ≡ statement.Exit → ⊥) → ((condition : Of r-expr) → f ≡ statement.ExitWhen condition → ⊥)
+          → ((stream : Option (Of r-expr)) (first : Of r-shown) (more : List (Of r-shown)) (is_open : Bool) → f ≡ statement.Put stream first more is_open → ⊥) → unbuilt_plain declared is_inside (n-rule m (statement_view f)) ≡ Some m.line
+      by (statement.Assign path value) a e w p = absurd (a path value refl)
+      by (statement.Call path) a e w p = refl
+      by (statement.If condition block elsifs otherwise) a e w p = refl
+      by (statement.Loop invariant block) a e w p = refl
+      by (statement.For is_decreasing name range invariant block) a e w p = refl
+      by (statement.Case subject arms otherwise) a e w p = refl
+      by (statement.Begin block) a e w p = refl
+      by statement.Exit a e w p = absurd (e refl)
+      by (statement.ExitWhen condition) a e w p = absurd (w condition refl)
+      by statement.Return a e w p = refl
+      by (statement.Result value) a e w p = refl
+      by (statement.Assert condition) a e w p = refl
+      by (statement.New collection pointer) a e w p = refl
+      by (statement.Free collection pointer) a e w p = refl
+      by (statement.Tag path value) a e w p = refl
+      by (statement.Put stream first more is_open) a e w p = absurd (p stream first more is_open refl)
+      by (statement.Get stream first more) a e w p = refl
+      by (statement.Open path name mode) a e w p = refl
+      by (statement.Close stream) a e w p = refl
+      by statement.Quit a e w p = refl
+      by (statement.QuitWith number) a e w p = refl

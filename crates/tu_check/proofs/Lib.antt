@@ -1,8 +1,9 @@
-pub mod Names
-pub mod Lists
-pub mod Levels
-pub mod Bodies
-pub mod Declarations
-pub mod Items
-pub mod Answering
-pub mod Limits
+-- of this crate alone
+mod Names
+mod Lists
+mod Levels
+mod Bodies
+mod Declarations
+mod Items
+mod Answering
+mod Limits

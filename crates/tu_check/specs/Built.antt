@@ -7,11 +7,12 @@ use Rattle.std.specs.Str.{bytes_eq}
 use Rattle.grammar.specs.Description.{rule}
 use Rattle.grammar.specs.Tree.{n-rule}
 use Rattle.tu_token.specs.declared.class.Class.TheVariants.{Name}
-use Rattle.tu_token.specs.Rules.{r-program, r-item, r-var, r-names, r-spec, r-block, r-elsif, r-statement, r-shown, r-expr, r-or, r-and, r-not, r-compare, r-relation, r-sum, r-term, r-prefix, r-power, r-primary, r-path, many, maybe, t}
+use Rattle.tu_token.specs.Rules.{r-program, r-item, r-var, r-names, r-spec, r-block, r-elsif, r-statement, r-shown, r-expr, r-compare, r-relation, r-sum, r-term, r-prefix, r-primary, r-path, many, maybe, t}
 use Rattle.tu_token.specs.Syntax.{Of}
+use Rattle.tu_expr.specs.Levels.{OnlyCompare, OnlySum, OnlyPrimary, operator_line, factor_line}
 use Rattle.tu_expr.specs.Parts.{Part, further, mark_of, text_of, line_of}
 use Rattle.tu_expr.specs.Views.{signed, multiplied}
-use Rattle.tu_tree.specs.Forms.{Present, Absent, More, NoMore, Behind, Listed, Separated, Program, ItemVar, ItemStatement, CollectionDeclaration, TypedDeclaration, StartedDeclaration, Names, Spec, IntType, ValueStart, Block, BlockConst, BlockVar, BlockType, BlockBind, BlockStatement, Assign, If, Elsif, Loop, Simple, Exit, ExitWhen, Put, Shown, Expr, Or, And, Not, Compare, Related, In, NotIn, Sum, Term, Prefix, Power, Added, Subtracted, Multiplied, NumberValue, PathValue, Brackets, Path}
+use Rattle.tu_tree.specs.Forms.{Present, Absent, More, NoMore, Behind, Listed, Separated, Program, ItemVar, ItemStatement, CollectionDeclaration, TypedDeclaration, StartedDeclaration, Names, Spec, IntType, ValueStart, Block, BlockConst, BlockVar, BlockType, BlockBind, BlockStatement, Assign, If, Elsif, Loop, Simple, Exit, ExitWhen, Put, Shown, Compare, Related, In, NotIn, Sum, Term, Added, Subtracted, Multiplied, NumberValue, PathValue, Brackets, Path}
 use Rattle.tu_tree.specs.Parts.{separated}
 use Rattle.tu_tree.specs.TypeViews.{named}
 use Rattle.tu_tree.specs.DeclarationViews.{started}
@@ -42,24 +43,8 @@ module _ (declared : List (List ℕ)) where
   -- A value is made of numbers, declared names and brackets, with `+`, `-` and `*` between two operands.
   abbrev mutual
     pub unbuilt : Of r-expr → Option ℕ
-    unbuilt (Expr m x NoMore) = unbuilt_or x
-    unbuilt (n-rule m other) = Some m.line
-
-    pub unbuilt_or : Of r-or → Option ℕ
-    unbuilt_or (Or m x NoMore) = unbuilt_and x
-    unbuilt_or (n-rule m other) = Some m.line
-
-    pub unbuilt_and : Of r-and → Option ℕ
-    unbuilt_and (And m x NoMore) = unbuilt_not x
-    unbuilt_and (n-rule m other) = Some m.line
-
-    pub unbuilt_not : Of r-not → Option ℕ
-    unbuilt_not (Not m NoMore x) = unbuilt_compare x
-    unbuilt_not (n-rule m other) = Some m.line
-
-    pub unbuilt_compare : Of r-compare → Option ℕ
-    unbuilt_compare (Compare m x NoMore) = unbuilt_sum x
-    unbuilt_compare (n-rule m other) = Some m.line
+    unbuilt (OnlySum _ _ _ _ _ x) = unbuilt_sum x
+    unbuilt other = Some (operator_line other)
 
     pub unbuilt_sum : Of r-sum → Option ℕ
     unbuilt_sum (Sum m first more) = option_or (unbuilt_term first) (unbuilt_terms more)
@@ -78,12 +63,8 @@ module _ (declared : List (List ℕ)) where
     unbuilt_factors other = None
 
     pub unbuilt_prefix : Of r-prefix → Option ℕ
-    unbuilt_prefix (Prefix m NoMore x) = unbuilt_power x
-    unbuilt_prefix (n-rule m other) = Some m.line
-
-    pub unbuilt_power : Of r-power → Option ℕ
-    unbuilt_power (Power m x NoMore) = unbuilt_primary x
-    unbuilt_power (n-rule m other) = Some m.line
+    unbuilt_prefix (OnlyPrimary _ _ x) = unbuilt_primary x
+    unbuilt_prefix other = Some (factor_line other)
 
     pub unbuilt_primary : Of r-primary → Option ℕ
     unbuilt_primary (NumberValue m digits) = None
@@ -96,21 +77,9 @@ module _ (declared : List (List ℕ)) where
   unbuilt_comparison (Compare m first (More (Related relation second) NoMore)) = if is_comparing relation then option_or (unbuilt_sum first) (unbuilt_sum second) else Some m.line
   unbuilt_comparison (n-rule m other) = Some m.line
 
-  abbrev pub unbuilt_condition_not : Of r-not → Option ℕ
-  unbuilt_condition_not (Not m NoMore x) = unbuilt_comparison x
-  unbuilt_condition_not (n-rule m other) = Some m.line
-
-  abbrev pub unbuilt_condition_and : Of r-and → Option ℕ
-  unbuilt_condition_and (And m x NoMore) = unbuilt_condition_not x
-  unbuilt_condition_and (n-rule m other) = Some m.line
-
-  abbrev pub unbuilt_condition_or : Of r-or → Option ℕ
-  unbuilt_condition_or (Or m x NoMore) = unbuilt_condition_and x
-  unbuilt_condition_or (n-rule m other) = Some m.line
-
   abbrev pub unbuilt_condition : Of r-expr → Option ℕ
-  unbuilt_condition (Expr m x NoMore) = unbuilt_condition_or x
-  unbuilt_condition (n-rule m other) = Some m.line
+  unbuilt_condition (OnlyCompare _ _ _ _ x) = unbuilt_comparison x
+  unbuilt_condition other = Some (operator_line other)
 
   -- What `put` shows is values, each with its least width or without, which is a value too.
   abbrev pub unbuilt_width : Part (maybe widths) → Option ℕ

@@ -4,7 +4,7 @@ use Rattle.tu_token.specs.declared.fault.LexError.{LexError}
 use Rattle.tu_token.specs.declared.fault.LexError.TheVariants.{Memory as lex_memory}
 use Rattle.tu_token.specs.declared.fault.ParseError.{ParseError}
 use Rattle.tu_token.specs.declared.fault.ParseError.TheVariants.{Unexpected, Memory as parse_memory}
-use Rattle.tu_token.specs.declared.fault.Refusal.TheVariants.{Lexical, Syntax}
+use Rattle.tu_check.specs.declared.refusal.Refusal.TheVariants.{Lexical, Syntax}
 use Rattle.tu_check.specs.declared.error.CheckError.{CheckError}
 use Rattle.tu_check.specs.declared.error.CheckError.TheVariants.{Refused, Memory}
 use Rattle.tu_check.specs.Refusals.{IsRefused}

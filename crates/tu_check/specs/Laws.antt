@@ -1,6 +1,6 @@
 -- What holds of all sources.
 use Rattle.std.specs.Prelude.{◌≡◌, ◌⊎◌, ℕ, List}
-use Rattle.tu_token.specs.declared.fault.Refusal.{Refusal}
+use Rattle.tu_check.specs.declared.refusal.Refusal.{Refusal}
 use Rattle.tu_token.specs.Rules.{r-program}
 use Rattle.tu_token.specs.Syntax.{Of}
 use Rattle.tu_check.specs.Limits.{HasLimits}

@@ -1,7 +1,8 @@
 -- What stands in a tree, as far as the limits of tokens bound it.
-use Rattle.std.specs.Prelude.{◌≡◌, ℕ, ◌≤◌, length}
+use Rattle.std.specs.Prelude.{◌≡◌, ℕ, ◌+◌, ◌≤◌, length}
 use Rattle.grammar.specs.Description.{Description, print}
 use Rattle.grammar.specs.Tree.{n-token, n-text, n-empty, n-sequence, n-left, n-right, n-none, n-more, n-rule, n-span, n-short, erase}
+use Rattle.tu_base.specs.declared.limits.TheConstants.{MOST_SOURCE_BYTES, MOST_TOKENS}
 use Rattle.tu_token.specs.declared.class.Class.TheVariants.{Number}
 use Rattle.tu_token.specs.ClassNumbers.{number}
 use Rattle.tu_token.specs.Rules.{Rule, r-program}
@@ -9,7 +10,7 @@ use Rattle.tu_token.specs.Syntax.{Of}
 use Rattle.tu_lex.specs.Laws.{IsSmallNumber}
 use Rattle.tu_expr.specs.Parts.{Part}
 
--- each number in a part is digits of one up to 2147483647
+-- each number in a part is digits of an int
 abbrev pub HasSmallNumbers : {d : Description Rule} → Part d → Type 0
 HasSmallNumbers n-token = Unit {0}
 HasSmallNumbers (n-text {c = c} text start line) = c ≡ number Number → IsSmallNumber text
@@ -37,8 +38,8 @@ HasLinesTo most (n-rule m x) = (m.line ≤ most) × HasLinesTo most x
 HasLinesTo most (n-span x y) = HasLinesTo most x × HasLinesTo most y
 HasLinesTo most (n-short z) = HasLinesTo most z
 
--- a tree of at most 65,536 tokens, whose numbers are small, and on at most 1,048,577 lines
+-- a tree of no more tokens than there may be, whose numbers are small, on no more lines than a source can have
 pub record HasLimits (tree : Of r-program) : Type 0 where
-  pub few : length (print (erase tree)) ≤ 65536
+  pub few : length (print (erase tree)) ≤ MOST_TOKENS
   pub numbers : HasSmallNumbers tree
-  pub lines : HasLinesTo 1048577 tree
+  pub lines : HasLinesTo (MOST_SOURCE_BYTES + 1) tree

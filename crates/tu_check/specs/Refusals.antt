@@ -1,8 +1,9 @@
 -- Which sources are accepted, and why the others are refused: the first group with a fault, at its least place.
 use Rattle.std.specs.Prelude.{◌≡◌, ℕ, ◌<◌, ◌≤◌, List, length, Some, None}
-use Rattle.tu_token.specs.declared.fault.Refusal.{Refusal}
-use Rattle.tu_token.specs.declared.fault.Refusal.TheVariants.{Size, Lexical, Syntax, Types}
-use Rattle.tu_token.specs.declared.fault.TypeError.TheVariants.{NotBuilt}
+use Rattle.tu_base.specs.declared.limits.TheConstants.{MOST_SOURCE_BYTES}
+use Rattle.tu_check.specs.declared.refusal.Refusal.{Refusal}
+use Rattle.tu_check.specs.declared.refusal.Refusal.TheVariants.{Size, Lexical, Syntax, Types}
+use Rattle.tu_check.specs.declared.refusal.TypeError.TheVariants.{NotBuilt}
 use Rattle.tu_token.specs.Lexemes.{IsLexed}
 use Rattle.tu_token.specs.LexFaults.{HasNoFault, IsLexFault}
 use Rattle.tu_token.specs.Rules.{r-program}
@@ -11,9 +12,9 @@ use Rattle.tu_token.specs.TokenList.{TokenList}
 use Rattle.tu_parse.specs.Parsing.{line_at, IsTreeOf}
 use Rattle.tu_check.specs.Built.{unbuilt_program}
 
--- at most 1,048,576 bytes without a lexical fault, which are these tokens
+-- a source that is not too long, without a lexical fault, which are these tokens
 pub record HasTokens (source : List ℕ) (tokens : TokenList) : Type 0 where
-  pub size : length source ≤ 1048576
+  pub size : length source ≤ MOST_SOURCE_BYTES
   pub no_fault : HasNoFault source
   pub lexed : IsLexed source tokens
 
@@ -44,8 +45,8 @@ pub record HasUnbuilt (source : List ℕ) (line : ℕ) : Type 0 where
 
 -- No other group is looked at yet.
 abbrev pub IsRefused : List ℕ → Refusal → Type 0
-IsRefused source Size = 1048576 < length source
-IsRefused source (Lexical error) = (length source ≤ 1048576) × IsLexFault source error
+IsRefused source Size = MOST_SOURCE_BYTES < length source
+IsRefused source (Lexical error) = (length source ≤ MOST_SOURCE_BYTES) × IsLexFault source error
 IsRefused source (Syntax line) = HasSyntaxFault source line
 IsRefused source (Types (NotBuilt line)) = HasUnbuilt source line
 IsRefused source other = ⊥

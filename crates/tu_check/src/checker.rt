@@ -3,21 +3,16 @@ ghost use Rattle.std.specs.Prelude.{◌≡◌, ℕ, List, IfErr, IfOk};
 ghost use Rattle.tu_check.specs.Errors.{IsCause};
 ghost use Rattle.tu_check.specs.Refusals.{IsAccepted};
 
-use crate::CheckError;
 use crate::built::unbuilt_program;
+use crate::{CheckError, Refusal, TypeError};
 use std::alloc::Global;
 use std::marker::Model;
-use tu_base::Bytes;
+use tu_base::{Bytes, MOST_SOURCE_BYTES};
 use tu_lex::lex;
 use tu_parse::parse;
-use tu_token::{Refusal, TypeError};
 use tu_tree::Tree;
 
-// In bytes.
-const LARGEST: usize = 1_048_576;
-
 /// The tree of a source that is accepted.
-#[derive(Debug)]
 pub struct Checked {
     tree: Tree,
 }
@@ -62,7 +57,7 @@ pub fn check(alloc: Global, source: &Bytes) -> Result<Checked, CheckError>
     ensures accepted { IfOk result (λ tree. IsAccepted source.now tree) }
     ensures refused { IfErr result (λ error. IsCause source.now error) }
 {
-    if source.len() > LARGEST {
+    if source.len() > MOST_SOURCE_BYTES as usize {
         return Err(CheckError::Refused(Refusal::Size));
     }
     let tokens = lex(alloc, source)?;

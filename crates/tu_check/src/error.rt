@@ -3,9 +3,10 @@ ghost use Rattle.std.specs.Prelude.{◌≡◌};
 ghost use Rattle.tu_check.specs.Errors.{lexical_error, syntax_error};
 ghost use Rattle.tu_check.specs.declared.error.CheckError.TheVariants as check_error;
 
+use crate::Refusal;
 use thiserror::Error;
 use tu_base::Memory;
-use tu_token::{LexError, ParseError, Refusal};
+use tu_token::{LexError, ParseError};
 
 /// Why a source is not checked.
 #[derive(Clone, Copy, PartialEq, Eq, Debug, Error)]

@@ -6,6 +6,7 @@ mod checker;
 mod declared;
 mod error;
 mod laws;
+mod refusal;
 mod statements;
 mod values;
 
@@ -13,3 +14,4 @@ pub use built::unbuilt_program;
 pub use checker::{Checked, check};
 pub use error::CheckError;
 pub use laws::{accepted_has_limits, one_answer, some_answer};
+pub use refusal::{AliasError, EffectError, Refusal, ScopeError, TypeError};

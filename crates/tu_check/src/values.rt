@@ -1,70 +1,15 @@
 // Values and conditions that are not built.
-ghost use Rattle.std.specs.Prelude.{◌≡◌, ◌<◌, ℕ, List, Some, MatchResult};
-ghost use Rattle.grammar.specs.Tree.{height, repeated};
+ghost use Rattle.std.specs.Prelude.{◌≡◌};
+ghost use Rattle.grammar.specs.Tree.{repeated};
 ghost use Rattle.tu_expr.specs.Views.{multiplied, multiplied_view};
-ghost use Rattle.tu_check.specs.Built.{are_times, is_comparing, unbuilt, unbuilt_compare, unbuilt_sum, unbuilt_term, unbuilt_prefix, unbuilt_primary, unbuilt_path, unbuilt_comparison, unbuilt_condition};
+ghost use Rattle.tu_check.specs.Built.{are_times, is_comparing, unbuilt, unbuilt_sum, unbuilt_term, unbuilt_prefix, unbuilt_path, unbuilt_comparison, unbuilt_condition};
 
 use crate::declared::Declared;
 use tu_base::Line;
 use tu_expr::{
-    Compare, Expr, Multiplication, Path, Prefix, Primary, PrimaryForm, Relation, RelationKind, Sum,
-    Term,
+    Compare, Expr, Multiplication, Path, Prefix, PrimaryForm, Relation, RelationKind, Sum, Term,
+    compare_of, primary_of, sum_of,
 };
-
-// The comparison that an expression is, or the line of an operator that is not built.
-fn compare_of(expr: &Expr) -> Result<&Compare, Line>
-    ensures value { MatchResult result (λ compare. (declared : List (List ℕ)) → unbuilt declared expr.now ≡ unbuilt_compare declared compare.now) (λ line. (declared : List (List ℕ)) → unbuilt declared expr.now ≡ Some line) }
-    ensures condition { MatchResult result (λ compare. (declared : List (List ℕ)) → unbuilt_condition declared expr.now ≡ unbuilt_comparison declared compare.now) (λ line. (declared : List (List ℕ)) → unbuilt_condition declared expr.now ≡ Some line) }
-    ensures within { MatchResult result (λ compare. height compare.now < height expr.now) (λ _. Unit {0}) }
-{
-    if !expr.more.is_empty() {
-        return Err(expr.at.line);
-    }
-    let or = &expr.first;
-    if !or.more.is_empty() {
-        return Err(or.at.line);
-    }
-    let and = &or.first;
-    if !and.more.is_empty() {
-        return Err(and.at.line);
-    }
-    let not = &and.first;
-    if not.nots > 0 {
-        return Err(not.at.line);
-    }
-    Ok(&not.compare)
-}
-
-// The sum that an expression is, or the line of an operator that is not built.
-fn sum_of(expr: &Expr) -> Result<&Sum, Line>
-    ensures unbuilt { MatchResult result (λ sum. (declared : List (List ℕ)) → unbuilt declared expr.now ≡ unbuilt_sum declared sum.now) (λ line. (declared : List (List ℕ)) → unbuilt declared expr.now ≡ Some line) }
-    ensures within { MatchResult result (λ sum. height sum.now < height expr.now) (λ _. Unit {0}) }
-{
-    match compare_of(expr) {
-        Err(line) => Err(line),
-        Ok(compare) => {
-            if !compare.more.is_empty() {
-                return Err(compare.at.line);
-            }
-            Ok(&compare.first)
-        }
-    }
-}
-
-// What stands between two operators, or the line of a sign or an operator that is not built.
-fn primary_of(prefix: &Prefix) -> Result<&Primary, Line>
-    ensures unbuilt { MatchResult result (λ primary. (declared : List (List ℕ)) → unbuilt_prefix declared prefix.now ≡ unbuilt_primary declared primary.now) (λ line. (declared : List (List ℕ)) → unbuilt_prefix declared prefix.now ≡ Some line) }
-    ensures within { MatchResult result (λ primary. height primary.now < height prefix.now) (λ _. Unit {0}) }
-{
-    if !prefix.signs.is_empty() {
-        return Err(prefix.at.line);
-    }
-    let power = &prefix.power;
-    if !power.more.is_empty() {
-        return Err(power.at.line);
-    }
-    Ok(&power.first)
-}
 
 fn are_times(factors: &[(Multiplication, Prefix)]) -> bool
     ensures { result ≡ are_times (repeated multiplied multiplied_view factors.now) }
@@ -104,6 +49,7 @@ pub fn unbuilt_path(declared: &Declared, path: &Path) -> Option<Line>
 
 /// The line of the first form in a value that is not built.
 #[cycle(built)]
+#[tactic(auto, using(crate::proofs::Levels::by_sum))]
 pub fn unbuilt(declared: &Declared, expr: &Expr) -> Option<Line>
     ensures { result ≡ unbuilt declared.now expr.now }
 {
@@ -147,6 +93,7 @@ fn unbuilt_term(declared: &Declared, term: &Term) -> Option<Line>
 }
 
 #[cycle(built)]
+#[tactic(auto, using(crate::proofs::Levels::by_primary, crate::proofs::Levels::brackets_alone))]
 fn unbuilt_prefix(declared: &Declared, prefix: &Prefix) -> Option<Line>
     ensures { result ≡ unbuilt_prefix declared.now prefix.now }
 {
@@ -176,6 +123,7 @@ fn unbuilt_comparison(declared: &Declared, compare: &Compare) -> Option<Line>
 }
 
 /// The line of the first form in a condition that is not built.
+#[tactic(auto, using(crate::proofs::Levels::by_compare))]
 pub fn unbuilt_condition(declared: &Declared, expr: &Expr) -> Option<Line>
     ensures { result ≡ unbuilt_condition declared.now expr.now }
 {

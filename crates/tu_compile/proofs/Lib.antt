@@ -1,5 +1,5 @@
-pub mod Generating
-pub mod Ending
-pub mod Faults
-pub mod Places
-pub mod Images
+-- of this crate alone
+mod Generating
+mod Faults
+mod Places
+mod Images

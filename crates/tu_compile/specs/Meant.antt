@@ -1,5 +1,6 @@
 -- What a program, region code, linear code and assigned code mean, as passes speak of it.
 use Rattle.std.specs.Prelude.{◌≢◌, ℕ, ◌+◌, ◌%◌, Bool, ◌==◌, nat_le, ◌&&◌, ◌↔◌, IsTrue, List, length}
+use Rattle.tu_base.specs.declared.limits.TheConstants.{TEXT_AT}
 use Rattle.rv_isa.specs.declared.service.FaultKind.{FaultKind}
 use Rattle.rv_isa.specs.declared.service.FaultKind.TheVariants.{Illegal}
 use Rattle.rv_image.specs.Streams.{Folder}
@@ -24,7 +25,7 @@ place_at first_global texts_at = record { globals_at = first_global; texts_at = 
 -- whether so many bytes of texts and the globals may lie there: the test of `IsPlace`
 abbrev pub fits_at : (texts first_global texts_at : ℕ) → Bool
 fits_at texts first_global texts_at =
-    ((first_global % 4) == 0) && (nat_le 65536 first_global && (nat_le first_global 67174400 && (((texts_at % 4) == 0) && (nat_le 65536 texts_at && nat_le (texts_at + texts) first_global))))
+    ((first_global % 4) == 0) && (nat_le TEXT_AT first_global && (nat_le first_global 67174400 && (((texts_at % 4) == 0) && (nat_le TEXT_AT texts_at && nat_le (texts_at + texts) first_global))))
 
 abbrev pub TestsPlaces : Type 0
 TestsPlaces = (texts first_global texts_at : ℕ) → IsTrue (fits_at texts first_global texts_at) ↔ IsPlace (place_at first_global texts_at) texts

@@ -1,6 +1,7 @@
 -- What the passes need of a code, and what they say of the code that they make.
 use Rattle.std.specs.Prelude.{◌≡◌, ℕ, ◌*◌, ◌≤◌, All, length}
 use Rattle.std.specs.List.{AllZip}
+use Rattle.tu_base.specs.declared.limits.TheConstants.{MOST_LITERAL_BYTES}
 use Rattle.rv_image.specs.Picture.{Picture}
 use Rattle.ir_form.specs.declared.unit.Unit.{Unit as RegionUnit}
 use Rattle.ir_form.specs.Lawful.{IsLawful as IsLawfulUnit}
@@ -25,7 +26,7 @@ abbrev pub most_words : ℕ
 most_words = 14 * most_weight
 
 abbrev pub most_texts : ℕ
-most_texts = 1048576
+most_texts = MOST_LITERAL_BYTES
 
 -- region code that can become linear code
 pub record IsReadyUnit (unit : RegionUnit) : Type 0 where

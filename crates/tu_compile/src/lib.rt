@@ -5,7 +5,6 @@ mod assign;
 mod chain;
 mod compiler;
 mod emit;
-pub mod example;
 mod flat;
 mod generate;
 mod laws;

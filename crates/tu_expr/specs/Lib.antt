@@ -3,3 +3,4 @@ pub mod Leaves
 pub mod Views
 pub mod Falls
 pub mod Forms
+pub mod Levels

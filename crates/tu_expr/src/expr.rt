@@ -3,7 +3,7 @@ use sqlite_items::{Boxed, Items};
 use std::marker::Model;
 
 /// The relation of a comparison.
-#[derive(Clone, Copy, Debug, PartialEq, Eq)]
+#[derive(Clone, Copy, PartialEq, Eq)]
 pub enum RelationKind {
     /// `=`
     Equal,
@@ -24,7 +24,7 @@ pub enum RelationKind {
 }
 
 /// A sign between terms, or before an operand.
-#[derive(Clone, Copy, Debug, PartialEq, Eq)]
+#[derive(Clone, Copy, PartialEq, Eq)]
 pub enum Sign {
     /// `+`
     Plus,
@@ -33,7 +33,7 @@ pub enum Sign {
 }
 
 /// An operator between factors.
-#[derive(Clone, Copy, Debug, PartialEq, Eq)]
+#[derive(Clone, Copy, PartialEq, Eq)]
 pub enum Multiplication {
     /// `*`
     Times,
@@ -44,7 +44,7 @@ pub enum Multiplication {
 }
 
 /// A relation between two sums.
-#[derive(Debug, Drop)]
+#[derive(Drop)]
 pub struct Relation {
     pub at: At,
     pub kind: RelationKind,
@@ -67,7 +67,7 @@ impl Model for Relation {
 
 /// Sides of `=>`, grouped to the left.
 #[cycle(expr)]
-#[derive(Debug, Drop)]
+#[derive(Drop)]
 pub struct Expr {
     pub at: At,
     pub first: Or,
@@ -97,7 +97,7 @@ impl Model for Expr {
 
 /// Sides of `or`, grouped to the left.
 #[cycle(expr)]
-#[derive(Debug, Drop)]
+#[derive(Drop)]
 pub struct Or {
     pub at: At,
     pub first: And,
@@ -127,7 +127,7 @@ impl Model for Or {
 
 /// Sides of `and`, grouped to the left.
 #[cycle(expr)]
-#[derive(Debug, Drop)]
+#[derive(Drop)]
 pub struct And {
     pub at: At,
     pub first: Not,
@@ -157,7 +157,7 @@ impl Model for And {
 
 /// A comparison behind some `not`.
 #[cycle(expr)]
-#[derive(Debug, Drop)]
+#[derive(Drop)]
 pub struct Not {
     pub at: At,
     pub nots: u32,
@@ -187,7 +187,7 @@ impl Model for Not {
 
 /// Sums with relations between them, grouped to the left.
 #[cycle(expr)]
-#[derive(Debug, Drop)]
+#[derive(Drop)]
 pub struct Compare {
     pub at: At,
     pub first: Sum,
@@ -217,7 +217,7 @@ impl Model for Compare {
 
 /// Terms with signs between them, grouped to the left.
 #[cycle(expr)]
-#[derive(Debug, Drop)]
+#[derive(Drop)]
 pub struct Sum {
     pub at: At,
     pub first: Term,
@@ -247,7 +247,7 @@ impl Model for Sum {
 
 /// Factors with operators between them, grouped to the left.
 #[cycle(expr)]
-#[derive(Debug, Drop)]
+#[derive(Drop)]
 pub struct Term {
     pub at: At,
     pub first: Prefix,
@@ -277,7 +277,7 @@ impl Model for Term {
 
 /// A power behind some signs.
 #[cycle(expr)]
-#[derive(Debug, Drop)]
+#[derive(Drop)]
 pub struct Prefix {
     pub at: At,
     pub signs: Items<Sign>,
@@ -307,7 +307,7 @@ impl Model for Prefix {
 
 /// Sides of `**`, grouped to the left.
 #[cycle(expr)]
-#[derive(Debug, Drop)]
+#[derive(Drop)]
 pub struct Power {
     pub at: At,
     pub first: Primary,
@@ -337,14 +337,14 @@ impl Model for Power {
 
 /// What stands between operators.
 #[cycle(expr)]
-#[derive(Debug, Drop)]
+#[derive(Drop)]
 pub struct Primary {
     pub at: At,
     pub form: PrimaryForm,
 }
 
 #[cycle(expr)]
-#[derive(Debug, Drop)]
+#[derive(Drop)]
 pub enum PrimaryForm {
     Number(Leaf),
     True,

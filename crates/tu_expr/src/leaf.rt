@@ -1,7 +1,7 @@
 use tu_base::{Bytes, Line};
 
 /// A node's number, and the place of its first token.
-#[derive(Clone, Copy, Debug, PartialEq, Eq)]
+#[derive(Clone, Copy, PartialEq, Eq)]
 pub struct At {
     /// Counted from 0, in the order of the first tokens.
     pub number: u32,
@@ -12,7 +12,7 @@ pub struct At {
 }
 
 /// The place of the first token of a part that has no number.
-#[derive(Clone, Copy, Debug, PartialEq, Eq)]
+#[derive(Clone, Copy, PartialEq, Eq)]
 pub struct Spot {
     /// The place of the first byte in the source, counted from 0.
     pub start: u32,
@@ -21,7 +21,7 @@ pub struct Spot {
 }
 
 /// A name or a literal.
-#[derive(Debug, Drop)]
+#[derive(Drop)]
 pub struct Leaf {
     /// Its bytes, as they stand in the source.
     pub text: Bytes,

@@ -3,6 +3,7 @@
 
 mod expr;
 mod leaf;
+mod levels;
 mod path;
 
 pub use expr::{
@@ -10,4 +11,5 @@ pub use expr::{
     RelationKind, Sign, Sum, Term,
 };
 pub use leaf::{At, Leaf, Spot};
+pub use levels::{compare_of, primary_of, sum_of};
 pub use path::{Arg, ArgForm, Path, Place, PlaceForm, Step};

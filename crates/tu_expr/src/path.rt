@@ -4,7 +4,7 @@ use std::marker::Model;
 
 /// A name, and how its value is chosen from or called.
 #[cycle(expr)]
-#[derive(Debug, Drop)]
+#[derive(Drop)]
 pub struct Path {
     pub at: At,
     pub root: Leaf,
@@ -12,7 +12,7 @@ pub struct Path {
 }
 
 #[cycle(expr)]
-#[derive(Debug, Drop)]
+#[derive(Drop)]
 pub enum Step {
     /// A name behind a dot.
     Field(Leaf),
@@ -43,14 +43,14 @@ impl Model for Path {
 
 /// An argument, a subscript, or the bounds of a part.
 #[cycle(expr)]
-#[derive(Debug, Drop)]
+#[derive(Drop)]
 pub struct Arg {
     pub at: At,
     pub form: ArgForm,
 }
 
 #[cycle(expr)]
-#[derive(Debug, Drop)]
+#[derive(Drop)]
 pub enum ArgForm {
     One(Place),
     /// From one place to another.
@@ -82,14 +82,14 @@ impl Model for Arg {
 
 /// A value, or a place that is counted from the end of a string.
 #[cycle(expr)]
-#[derive(Debug, Drop)]
+#[derive(Drop)]
 pub struct Place {
     pub at: At,
     pub form: PlaceForm,
 }
 
 #[cycle(expr)]
-#[derive(Debug, Drop)]
+#[derive(Drop)]
 pub enum PlaceForm {
     Value(Expr),
     /// `*`

@@ -1,3 +1,4 @@
-pub mod Arms
-pub mod Lines
-pub mod Low
+-- of this crate alone
+mod Arms
+mod Lines
+mod Low

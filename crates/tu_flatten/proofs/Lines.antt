@@ -10,7 +10,7 @@ use Rattle.tu_token.specs.TokenList.{TokenList}
 use Rattle.tu_token.specs.declared.token.Token.{Token}
 use Rattle.tu_flatten_parts.specs.declared.pieces.Piece.{Piece}
 use Rattle.tu_flatten_parts.specs.Pieces.{lexeme_of}
-use Rattle.tu_flatten_parts.specs.Spellings.{bytes_of, spelling, text_of}
+use Rattle.tu_token.specs.Spellings.{bytes_of, spelling, text_of}
 use Rattle.tu_flatten.specs.OneLine.{joined, StandsAt, StandFrom, IsOnOneLine}
 
 -- how far tokens reach, with a blank behind each

@@ -3,7 +3,7 @@ use Rattle.std.specs.Prelude.{◌≡◌, ℕ, ◌+◌, List, [], ◌∷◌, ◌+
 use Rattle.tu_token.specs.declared.token.Token.{Token}
 use Rattle.tu_token.specs.ClassNumbers.{number, keeps_text}
 use Rattle.tu_token.specs.TokenList.{TokenList}
-use Rattle.tu_flatten_parts.specs.Spellings.{spelling}
+use Rattle.tu_token.specs.Spellings.{spelling}
 
 -- the texts of tokens, with one blank between two
 abbrev pub joined : List Token → List ℕ

@@ -1,4 +1,5 @@
-//! A tree back as the tokens that it spells, on one line.
+//! The printer: a tree back as the tokens that it spells, on one line. What stands below statements is written by
+//! tu_flatten_parts.
 #![tactic(auto)]
 
 mod blocks;

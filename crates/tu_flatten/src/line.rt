@@ -2,17 +2,18 @@
 ghost use Rattle.std.specs.Prelude.{◌≡◌, ◌+◌, ◌<◌, ◌≤◌, ◌^◌, IfOk, length, map, min, vec_len};
 ghost use Rattle.grammar.specs.Description.{print};
 ghost use Rattle.grammar.specs.Tree.{erase};
+ghost use Rattle.tu_base.specs.declared.limits.TheConstants.{MOST_TOKENS};
 ghost use Rattle.tu_token.specs.ClassNumbers.{lexeme_of as token_lexeme, lexemes, number};
 ghost use Rattle.tu_token.specs.Syntax.{Spells};
 ghost use Rattle.tu_flatten.specs.OneLine.{IsOnOneLine, StandsAt};
 ghost use Rattle.tu_flatten_parts.specs.Pieces.{lexeme_of};
-ghost use Rattle.tu_flatten_parts.specs.Spellings.{bytes_of, text_of};
+ghost use Rattle.tu_token.specs.Spellings.{bytes_of, text_of};
 
 use crate::programs::write_tree;
 use std::alloc::Global;
 use tu_base::{Bytes, Memory};
-use tu_flatten_parts::{Piece, Pieces, spelling};
-use tu_tree::{Class, Token, Tokens, Tree};
+use tu_flatten_parts::{Piece, Pieces};
+use tu_tree::{Class, Token, Tokens, Tree, spelling};
 
 fn class_of(piece: &Piece) -> Class
     ensures { number result ≡ (lexeme_of piece.now).0 }
@@ -55,7 +56,7 @@ fn token_at(alloc: Global, place: u32, piece: Piece) -> Result<Token, Memory>
 
 // The tokens of pieces on one line.
 fn lay_out(alloc: Global, pieces: Vec<Piece>) -> Result<Tokens, Memory>
-    requires few { vec_len pieces ≤ 65536 }
+    requires few { vec_len pieces ≤ MOST_TOKENS }
     requires short { bytes_of (map lexeme_of pieces.items) ≤ 2 ^ 31 }
     ensures lexemes { IfOk result (λ tokens. lexemes tokens.items ≡ map lexeme_of pieces.items) }
     ensures places { IfOk result (λ tokens. IsOnOneLine tokens) }
@@ -74,7 +75,7 @@ fn lay_out(alloc: Global, pieces: Vec<Piece>) -> Result<Tokens, Memory>
 /// The tokens that a tree spells, which stand on one line with one blank between two of them, or
 /// want of memory.
 pub fn flatten(alloc: Global, tree: &Tree) -> Result<Tokens, Memory>
-    requires few { length (print (erase tree.now)) ≤ 65536 }
+    requires few { length (print (erase tree.now)) ≤ MOST_TOKENS }
     requires short { bytes_of (print (erase tree.now)) ≤ 2 ^ 31 }
     ensures spells { IfOk result (λ tokens. Spells tree.now tokens) }
     ensures places { IfOk result (λ tokens. IsOnOneLine tokens) }

@@ -153,6 +153,15 @@ fn write_close(stream: &Expr, out: &mut Pieces) -> Result<(), Memory>
     Ok(())
 }
 
+fn write_quit_with(number: &Expr, out: &mut Pieces) -> Result<(), Memory>
+    ensures { IfOk result (λ _. Writes (statement_view (StatementForm.QuitWith number.now)) out.old out.new) }
+{
+    out.word(Class::WordQuit)?;
+    out.word(Class::SignColon)?;
+    write_expr(number, out)?;
+    Ok(())
+}
+
 fn write_tag_change(path: &Path, value: &Expr, out: &mut Pieces) -> Result<(), Memory>
     ensures { IfOk result (λ _. Writes (statement_view (StatementForm.Tag path.now value.now)) out.old out.new) }
 {
@@ -235,6 +244,8 @@ pub fn write_simple(form: &StatementForm, out: &mut Pieces) -> Result<(), Memory
         } => write_get(stream, first, more, out),
         StatementForm::Open(path, name, mode) => write_open(path, name.get(), *mode, out),
         StatementForm::Close(stream) => write_close(stream.get(), out),
+        StatementForm::Quit => out.word(Class::WordQuit),
+        StatementForm::QuitWith(number) => write_quit_with(number.get(), out),
         StatementForm::If { .. }
         | StatementForm::Loop(..)
         | StatementForm::For { .. }

@@ -1,7 +1,7 @@
 // Subprograms.
 ghost use Rattle.std.specs.Prelude.{IfOk};
 ghost use Rattle.grammar.specs.Description.{rule};
-ghost use Rattle.tu_token.specs.Rules.{r-formals};
+ghost use Rattle.tu_token.specs.Rules.{r-formals, r-handler};
 ghost use Rattle.tu_expr.specs.Parts.{optional};
 ghost use Rattle.tu_tree.specs.SubprogramViews.{kind_view};
 ghost use Rattle.tu_flatten_parts.specs.Writes.{Writes};
@@ -13,7 +13,8 @@ use tu_flatten_parts::{
     write_spec, write_tag,
 };
 use tu_tree::{
-    Class, Formal, Formals, Head, HeadForm, Rest, Subprogram, SubprogramForm, SubprogramKind,
+    Class, Formal, Formals, Handler, Head, HeadForm, Rest, Subprogram, SubprogramForm,
+    SubprogramKind,
 };
 
 fn write_formal(formal: &Formal, out: &mut Pieces) -> Result<(), Memory>
@@ -72,12 +73,29 @@ fn write_head(head: &Head, out: &mut Pieces) -> Result<(), Memory>
     }
 }
 
+fn write_any_handler(handler: &Option<Handler>, out: &mut Pieces) -> Result<(), Memory>
+    ensures { IfOk result (λ _. Writes (optional (rule r-handler) handler.now) out.old out.new) }
+{
+    match handler {
+        Some(handler) => {
+            out.word(Class::WordHandler)?;
+            out.word(Class::SignLeftBracket)?;
+            out.name(&handler.name)?;
+            out.word(Class::SignRightBracket)?;
+            write_block(&handler.block, out)?;
+            out.end(Class::WordHandler)
+        }
+        None => Ok(()),
+    }
+}
+
 fn write_rest(rest: &Rest, out: &mut Pieces) -> Result<(), Memory>
     ensures { IfOk result (λ _. Writes rest.now out.old out.new) }
 {
     write_pre(&rest.pre, out)?;
     write_any_givens(&rest.givens, out)?;
     write_post(&rest.post, out)?;
+    write_any_handler(&rest.handler, out)?;
     write_block(&rest.block, out)?;
     write_ending(&rest.ending, out)?;
     Ok(())

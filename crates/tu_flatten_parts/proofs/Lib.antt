@@ -1,3 +1,3 @@
-pub mod Entries
+-- for the crates above
 pub mod Lists
 pub mod Steps

@@ -1,11 +1,12 @@
-pub mod Scanning
-pub mod Digits
-pub mod Prefix
-pub mod Closing
-pub mod Pieces
-pub mod Fronts
-pub mod Faults
-pub mod Lines
-pub mod Turns
-pub mod Steps
-pub mod Whole
+-- of this crate alone
+mod Scanning
+mod Digits
+mod Prefix
+mod Closing
+mod Pieces
+mod Fronts
+mod Faults
+mod Lines
+mod Turns
+mod Steps
+mod Whole

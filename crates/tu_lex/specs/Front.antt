@@ -2,6 +2,7 @@
 use Rattle.std.specs.Prelude.{ℕ, ◌+◌, Bool, false, ◌==◌, ◌&&◌, nat_lt, List, [], ◌∷◌, take, Option, Some, None, Result, Ok, Err, if◌then◌else◌}
 use Rattle.std.specs.List.{prefix_len}
 use Rattle.std.specs.Char.{is_ascii_digit}
+use Rattle.tu_base.specs.declared.limits.TheConstants.{MOST_NAME_BYTES}
 use Rattle.tu_token.specs.declared.class.Class.{Class}
 use Rattle.tu_token.specs.declared.class.Class.TheVariants.{Number, SignNotEqual}
 use Rattle.tu_token.specs.declared.fault.LexError.{LexError}
@@ -34,7 +35,7 @@ number_front line bytes = if is_bad_number bytes then Err (BadNumber line) else 
 
 abbrev pub word_front : ℕ → List ℕ → Result Piece LexError
 word_front line bytes =
-    if nat_lt 50 (prefix_len is_name_byte bytes) then Err (LongName line)
+    if nat_lt MOST_NAME_BYTES (prefix_len is_name_byte bytes) then Err (LongName line)
     else if begins_not_equal bytes then Ok (Lexeme SignNotEqual 4)
     else Ok (Lexeme (word_class (take (prefix_len is_name_byte bytes) bytes)) (prefix_len is_name_byte bytes))
 

@@ -1,5 +1,6 @@
 -- How far a source is read, and what is still to come.
 use Rattle.std.specs.Prelude.{◌≡◌, ℕ, ◌+◌, ◌≤◌, Bool, nat_le, ◌==◌, List, [], ◌∷◌, ◌++◌, length, take, drop, Option, Some, None, if◌then◌else◌}
+use Rattle.tu_base.specs.declared.limits.TheConstants.{MOST_OPEN, MOST_TOKENS}
 use Rattle.tu_token.specs.declared.class.Class.{Class}
 use Rattle.tu_token.specs.declared.fault.LexError.{LexError}
 use Rattle.tu_token.specs.declared.fault.LexError.TheVariants.{BadByte as bad_byte, TooMany as too_many, TooDeep as too_deep}
@@ -24,9 +25,9 @@ taken p class text = record {
 -- why a token may not be taken, where its bytes may be those of a text that may not stand there
 abbrev pub refusal_of : Progress → Class → Bool → Option LexError
 refusal_of p class bad =
-    if length p.tokens.items == 65536 then Some (too_many p.line)
+    if length p.tokens.items == MOST_TOKENS then Some (too_many p.line)
     else if bad then Some (bad_byte p.line)
-    else if nat_le (depth (nest_after p.nest class)) 32 then None
+    else if nat_le (depth (nest_after p.nest class)) MOST_OPEN then None
     else Some (too_deep p.line)
 
 -- a fault in bytes from a place on

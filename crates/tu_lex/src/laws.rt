@@ -8,7 +8,7 @@ pub fn tokens_or_fault()
 {}
 
 /// The tokens of a source without a lexical fault are at most 65,536, on its lines, and their
-/// numbers are at most 2147483647.
+/// numbers are at most `MOST_INT`.
 pub fn tokens_within_limits()
     ensures { TokensAreWithinLimits }
 {

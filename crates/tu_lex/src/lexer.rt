@@ -1,5 +1,6 @@
 // A source as tokens.
 ghost use Rattle.std.specs.Prelude.{◌≡◌, ◌+◌, ◌<◌, ◌≤◌, ◌⊎◌, ℕ, Some, None, length, take, drop, IfOk, IfErr, MatchResult};
+ghost use Rattle.tu_base.specs.declared.limits.TheConstants.{MOST_SOURCE_BYTES};
 ghost use Rattle.tu_token.specs.Lexemes.{line_after, IsLexed};
 ghost use Rattle.tu_token.specs.LexFaults.{HasNoFault, IsLexFault};
 ghost use Rattle.tu_lex.specs.Reads.{passed, taken, refusal_of, Reads};
@@ -8,10 +9,8 @@ use crate::piece::{Piece, front};
 use crate::stack::Nest;
 use crate::text::has_bad_byte;
 use std::alloc::Global;
-use tu_base::{Bytes, Line};
+use tu_base::{Bytes, Line, MOST_TOKENS};
 use tu_token::{Class, LexError, Token, Tokens};
-
-const MOST_TOKENS: u32 = 65_536;
 
 // How far a source is read.
 #[derive(Drop)]
@@ -46,7 +45,7 @@ fn line_after(line: Line, bytes: &[u8]) -> Line
 // Goes on behind a separator.
 fn pass(progress: &mut Progress, gap: &[u8])
     requires line { progress.old.line + length gap.now ≤ 4294967295 }
-    requires place { progress.old.place + length gap.now ≤ 1048576 }
+    requires place { progress.old.place + length gap.now ≤ MOST_SOURCE_BYTES }
     ensures { progress.new ≡ passed progress.old gap.now }
 {
     progress.line = line_after(progress.line, gap);
@@ -61,7 +60,7 @@ fn take(
     text: &[u8],
     is_bad: bool,
 ) -> Result<(), LexError>
-    requires place { progress.old.place + length text.now ≤ 1048576 }
+    requires place { progress.old.place + length text.now ≤ MOST_SOURCE_BYTES }
     ensures { MatchResult result
         (λ _. (refusal_of progress.old class is_bad ≡ None) × (progress.new ≡ taken progress.old class text.now))
         (λ e. (e ≡ LexError.Memory) ⊎ (refusal_of progress.old class is_bad ≡ Some e)) }
@@ -90,7 +89,7 @@ fn take(
 // Goes on behind the next separator or lexeme.
 fn step(alloc: Global, bytes: &[u8], progress: &mut Progress) -> Result<(), LexError>
     requires some { progress.old.place < length bytes.now }
-    requires short { length bytes.now ≤ 1048576 }
+    requires short { length bytes.now ≤ MOST_SOURCE_BYTES }
     requires reads { Reads bytes.now progress.old }
     ensures { MatchResult result
         (λ _. Reads bytes.now progress.new × (progress.old.place < progress.new.place))
@@ -119,10 +118,10 @@ fn step(alloc: Global, bytes: &[u8], progress: &mut Progress) -> Result<(), LexE
     }
 }
 
-/// The tokens of a source of at most 1,048,576 bytes, or its first lexical fault with its line, or
+/// The tokens of a source of at most `MOST_SOURCE_BYTES` bytes, or its first lexical fault with its line, or
 /// want of memory. It takes memory for the tokens alone.
 pub fn lex(alloc: Global, source: &Bytes) -> Result<Tokens, LexError>
-    requires { length source.now ≤ 1048576 }
+    requires { length source.now ≤ MOST_SOURCE_BYTES }
     // The source is these tokens, and has no lexical fault.
     ensures lexed { IfOk result (λ tokens. IsLexed source.now tokens × HasNoFault source.now) }
     // This is the fault at the least place.

@@ -13,6 +13,3 @@ mod word;
 
 pub use laws::{tokens_or_fault, tokens_within_limits};
 pub use lexer::lex;
-
-#[cfg(test)]
-mod tests;

@@ -5,8 +5,9 @@ ghost use Rattle.std.specs.Char.{is_ascii_digit};
 ghost use Rattle.tu_token.specs.LexFaults.{value_after, goes_on, is_bad_number};
 
 use crate::word::is_name_byte;
+use tu_base::MOST_INT;
 
-const LARGEST: u64 = 2_147_483_647;
+const LARGEST: u64 = MOST_INT as u64;
 
 /// How many bytes in front are digits.
 pub fn digits_length(bytes: &[u8]) -> usize
@@ -20,7 +21,7 @@ pub fn digits_length(bytes: &[u8]) -> usize
 }
 
 fn is_too_large(digits: &[u8]) -> bool
-    ensures { result ≡ nat_lt 2147483647 (value_after 0 digits.now) }
+    ensures { result ≡ nat_lt MOST_INT (value_after 0 digits.now) }
 {
     let mut number = 0u64;
     for digit in digits {

@@ -8,13 +8,9 @@ use crate::number::{digits_length, is_bad_number};
 use crate::separator::{comment_end, line_length, white_length};
 use crate::sign::{double, single};
 use crate::text::{contents_length, text_end};
-use crate::word::{begins_not_equal, name_length, word_class};
-use tu_base::Line;
-use tu_token::{Class, LexError};
-
-const LONGEST_TEXT: usize = 255;
-
-const LONGEST_NAME: usize = 50;
+use crate::word::{begins_not_equal, name_length};
+use tu_base::{Line, MOST_NAME_BYTES, MOST_TEXT_BYTES};
+use tu_token::{Class, LexError, word_class};
 
 /// A separator or a lexeme, with its number of bytes.
 #[derive(Clone, Copy, Debug, PartialEq, Eq)]
@@ -45,7 +41,7 @@ fn text_front(body: &[u8], line: Line) -> Result<Piece, LexError>
     match text_end(body) {
         None => Err(LexError::OpenText(line)),
         Some(length) => {
-            if contents_length(&body[..length - 1]) > LONGEST_TEXT {
+            if contents_length(&body[..length - 1]) > MOST_TEXT_BYTES as usize {
                 Err(LexError::LongText(line))
             } else {
                 Ok(Piece::Text(length + 1))
@@ -68,7 +64,7 @@ fn word_front(bytes: &[u8], line: Line) -> Result<Piece, LexError>
     ensures { result ≡ word_front line bytes.now }
 {
     let length = name_length(bytes);
-    if length > LONGEST_NAME {
+    if length > MOST_NAME_BYTES as usize {
         Err(LexError::LongName(line))
     } else if begins_not_equal(bytes) {
         Ok(Piece::Lexeme(Class::SignNotEqual, 4))

@@ -3,11 +3,12 @@ ghost use Rattle.std.specs.Prelude.{◌≡◌, ◌≤◌, ◌↔◌, IsTrue, len
 ghost use Rattle.tu_token.specs.Nests.{role_of, is_opened, no_nest, opened, closed, ended, nest_after, depth};
 
 use std::marker::Model;
+use tu_base::MOST_OPEN;
 use tu_token::{Before, Class, Construct, Role};
 
-const DEEPEST: usize = 32;
+const DEEPEST: usize = MOST_OPEN as usize;
 
-/// At most 32 open constructs, and the token before.
+/// The constructs that are open, at most `MOST_OPEN`, and the token before.
 #[derive(Drop)]
 pub struct Nest {
     stack: [Construct; DEEPEST],
@@ -17,13 +18,14 @@ pub struct Nest {
 
 impl Model for Nest {
     ghost use Rattle.std.specs.Prelude.{◌≤◌, take, reverse};
+    ghost use Rattle.tu_base.specs.declared.limits.TheConstants.{MOST_OPEN};
     ghost use Rattle.tu_token.specs.Nests.{Nest as Open};
 
     ghost Value = { Open };
 
     ghost view = { λ n. record { stack = reverse (take n.depth n.stack); before = n.before } };
 
-    ghost invariant = { λ n. n.depth ≤ 32 };
+    ghost invariant = { λ n. n.depth ≤ MOST_OPEN };
 }
 
 fn role_of(class: Class) -> Role
@@ -39,6 +41,7 @@ fn role_of(class: Class) -> Role
         Class::WordUnion => Role::Opens(Construct::Union),
         Class::WordBegin => Role::Opens(Construct::Begin),
         Class::WordModule => Role::Opens(Construct::Module),
+        Class::WordHandler => Role::Opens(Construct::Handler),
         Class::WordProcedure | Class::WordFunction => Role::Opens(Construct::Subprogram),
         Class::SignRightBracket => Role::Closes,
         Class::WordEnd => Role::Ends,
@@ -58,7 +61,8 @@ fn is_opened(before: Before, construct: Construct) -> bool
         | Construct::For
         | Construct::Case
         | Construct::Record
-        | Construct::Union => before != Before::End(construct),
+        | Construct::Union
+        | Construct::Handler => before != Before::End(construct),
         Construct::Bracket | Construct::Begin | Construct::Module => true,
     }
 }
@@ -77,7 +81,7 @@ impl Nest {
 
     // Opens a construct, where its word does. False where there is no room for it.
     fn open(&mut self, construct: Construct) -> bool
-        ensures fits { IsTrue result ↔ (depth (opened self.old construct) ≤ 32) }
+        ensures fits { IsTrue result ↔ (depth (opened self.old construct) ≤ MOST_OPEN) }
         ensures after { IsTrue result → self.new ≡ opened self.old construct }
     {
         if is_opened(self.before, construct) {
@@ -94,7 +98,7 @@ impl Nest {
     // Closes the innermost, where it is a bracket.
     fn close(&mut self)
         ensures after { self.new ≡ record { stack = closed self.old.stack; before = Before.Other } }
-        ensures fits { length (closed self.old.stack) ≤ 32 }
+        ensures fits { length (closed self.old.stack) ≤ MOST_OPEN }
     {
         if self.depth > 0 && self.stack[self.depth - 1] == Construct::Bracket {
             self.depth -= 1;
@@ -105,7 +109,7 @@ impl Nest {
     // Ends the innermost, where it is no bracket.
     fn end(&mut self)
         ensures after { self.new ≡ ended self.old.stack }
-        ensures fits { depth (ended self.old.stack) ≤ 32 }
+        ensures fits { depth (ended self.old.stack) ≤ MOST_OPEN }
     {
         self.before = Before::Other;
         if self.depth > 0 {
@@ -117,9 +121,9 @@ impl Nest {
         }
     }
 
-    /// Goes on behind a token, or answers false where more than 32 constructs would then be open.
+    /// Goes on behind a token, or answers false where more than `MOST_OPEN` constructs would then be open.
     pub fn enter(&mut self, class: Class) -> bool
-        ensures fits { IsTrue result ↔ (depth (nest_after self.old class) ≤ 32) }
+        ensures fits { IsTrue result ↔ (depth (nest_after self.old class) ≤ MOST_OPEN) }
         ensures after { IsTrue result → self.new ≡ nest_after self.old class }
     {
         match role_of(class) {

@@ -1,5 +1,6 @@
+-- of this crate alone
 mod Sources
 mod ProgramRows
-pub mod Alike
-pub mod Forms
-pub mod ProgramLaws
+mod Alike
+mod Forms
+mod ProgramLaws

@@ -1,6 +1,7 @@
 -- What a program does, over any store.
 use Rattle.std.specs.Prelude.{ℕ, zero, suc, ◌+◌, ◌-◌, Bool, ◌&&◌, List, [], ◌∷◌, ◌++◌, length, map, replicate, ℤ, pos, int_le, unsigned_abs, if◌then◌else◌}
 use Rattle.std.specs.Fmt.{signed_decimal}
+use Rattle.tu_base.specs.declared.limits.TheConstants.{MOST_WIDTH}
 use Rattle.grammar.specs.Description.{rule}
 use Rattle.tu_base.specs.Trace.{Put as put_byte}
 use Rattle.tu_base.specs.declared.kind.Kind.TheVariants as kind
@@ -44,7 +45,7 @@ truth_of v = stuck
 
 -- a width is from 0 to 255
 abbrev pub is_width : ℤ → Bool
-is_width z = int_le (pos 0) z && int_le z (pos 255)
+is_width z = int_le (pos 0) z && int_le z (pos MOST_WIDTH)
 
 -- a width as a number, or Range
 abbrev pub width_of : {S : Type 0} → (line : ℕ) → Value → Step S ℕ

@@ -1,5 +1,6 @@
 -- What operators give.
 use Rattle.std.specs.Prelude.{Bool, not, ◌&&◌, ℤ, ◌+ℤ◌, ◌-ℤ◌, ◌*ℤ◌, unsigned_abs, int_le, int_lt, nat_le, if◌then◌else◌}
+use Rattle.tu_base.specs.declared.limits.TheConstants.{MOST_INT}
 use Rattle.tu_base.specs.declared.kind.Kind.{Kind}
 use Rattle.tu_base.specs.declared.kind.Kind.TheVariants.{Overflow}
 use Rattle.tu_token.specs.Rules.{r-relation}
@@ -15,7 +16,7 @@ pub data Answer : Type 0 where
 
 -- an int lies from -2147483647 to 2147483647
 abbrev pub is_int : ℤ → Bool
-is_int z = nat_le (unsigned_abs z) 2147483647
+is_int z = nat_le (unsigned_abs z) MOST_INT
 
 -- the exact result, or Overflow
 abbrev pub exact : ℤ → Answer

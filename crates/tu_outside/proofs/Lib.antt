@@ -1,3 +1,4 @@
-pub mod CellLemmas
-pub mod ReadLemmas
-pub mod ToldLemmas
+-- of this crate alone
+mod CellLemmas
+mod ReadLemmas
+mod ToldLemmas

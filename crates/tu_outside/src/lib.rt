@@ -29,54 +29,77 @@ pub use std_notes::StdNotes;
 #[cfg(test)]
 mod tests {
     use super::*;
+    use std::alloc::Global;
     use std::test::Fail;
-    use tu_base::{Bytes, Event, Numbers, Words};
+    use tu_base::{Bytes, Event, Memory, Numbers, Words};
 
-    #[test]
-    fn a_memory_console_fails_where_it_is_told_to(rt: HostRuntime) -> Result<(), Fail> {
-        let alloc = rt.alloc();
+    fn fails_where_it_is_told_to(alloc: Global) -> Result<bool, Memory> {
         let input = Bytes::from_slice(alloc, b"x")?;
         let fail = Numbers::from_slice(alloc, &[2])?;
         let mut console = MemoryConsole::make(alloc, &input, &fail)?;
         console.reserve(3)?;
-        assert_eq!(rt; console.put(b"a"), Ok(()));
-        assert_eq!(rt; console.put(b"b"), Err(ConsoleFault));
-        assert_eq!(rt; console.get(), Ok(Some(b'x')));
-        assert_eq!(rt; console.get(), Ok(None));
-        assert_eq!(rt; console.get(), Err(ConsoleFault));
-        assert_eq!(rt;
-            console.event_list(),
-            [Event::Put(b'a'), Event::Got(b'x'), Event::AtEnd].as_slice()
-        );
-        assert_eq!(rt; console.fault_count(), 2);
+        let puts = [console.put(b"a"), console.put(b"b")];
+        let gets = [console.get(), console.get(), console.get()];
+        let events = [Event::Put(b'a'), Event::Got(b'x'), Event::AtEnd];
+        Ok(
+            puts == [Ok(()), Err(ConsoleFault)]
+                && gets == [Ok(Some(b'x')), Ok(None), Err(ConsoleFault)]
+                && console.event_list() == events.as_slice()
+                && console.fault_count() == 2,
+        )
+    }
+
+    #[test]
+    fn a_memory_console_fails_where_it_is_told_to(rt: HostRuntime) -> Result<(), Fail> {
+        assert!(rt; fails_where_it_is_told_to(rt.alloc())?);
         Ok(())
+    }
+
+    // Whether a file with these bytes is fetched, but not where it may only be shorter.
+    fn is_fetched<K: Cabinet>(
+        alloc: Global,
+        cabinet: &mut K,
+        name: &Bytes,
+        contents: &[u8],
+    ) -> Result<bool, CabinetError> {
+        let Fetched::TooLong = cabinet.fetch(alloc, name, 4)? else {
+            return Ok(false);
+        };
+        for most in [5, u64::MAX] {
+            let Fetched::Whole(found) = cabinet.fetch(alloc, name, most)? else {
+                return Ok(false);
+            };
+            if found.as_slice() != contents {
+                return Ok(false);
+            }
+        }
+        Ok(true)
+    }
+
+    fn keeps_a_file(alloc: Global) -> Result<bool, CabinetError> {
+        let name = Bytes::from_slice(alloc, b"name")?;
+        let contents = Bytes::from_slice(alloc, b"hello")?;
+        let mut cabinet = MemoryCabinet::make(alloc, &Numbers::make(alloc))?;
+        cabinet.keep(alloc, &name, &contents)?;
+        let fetched = is_fetched(alloc, &mut cabinet, &name, b"hello")?;
+        let found = cabinet.file(&name);
+        let found = found.is_some_and(|found| found.as_slice() == b"hello".as_slice());
+        Ok(fetched && found && cabinet.fault_count() == 0)
+    }
+
+    fn keeps_a_line(alloc: Global) -> Result<bool, Memory> {
+        let mut notes = MemoryNotes::make(alloc, &Numbers::make(alloc))?;
+        notes.reserve(6)?;
+        let lines = [notes.line(b"hello"), notes.line(b"")];
+        let mut expected = Words::make(alloc);
+        expected.add(Bytes::from_slice(alloc, b"hello")?)?;
+        Ok(lines == [Ok(()), Err(NoteFault)] && notes.same(&expected) && notes.fault_count() == 1)
     }
 
     #[test]
     fn memory_keeps_files_and_lines(rt: HostRuntime) -> Result<(), Fail> {
-        let alloc = rt.alloc();
-        let none = Numbers::make(alloc);
-        let name = Bytes::from_slice(alloc, b"name")?;
-        let contents = Bytes::from_slice(alloc, b"hello")?;
-
-        let mut cabinet = MemoryCabinet::make(alloc, &none)?;
-        cabinet.keep(alloc, &name, &contents)?;
-        let Some(found) = cabinet.file(&name) else {
-            panic!(rt; "no file");
-        };
-        assert_eq!(rt; found.as_slice(), b"hello".as_slice());
-        assert!(rt; matches!(&cabinet.fetch(alloc, &name, 4)?, Fetched::TooLong));
-        assert!(rt; matches!(&cabinet.fetch(alloc, &name, 5)?, Fetched::Whole(_)));
-        assert_eq!(rt; cabinet.fault_count(), 0);
-
-        let mut notes = MemoryNotes::make(alloc, &none)?;
-        notes.reserve(6)?;
-        assert_eq!(rt; notes.line(b"hello"), Ok(()));
-        assert_eq!(rt; notes.line(b""), Err(NoteFault));
-        let mut expected = Words::make(alloc);
-        expected.add(contents)?;
-        assert!(rt; notes.same(&expected));
-        assert_eq!(rt; notes.fault_count(), 1);
+        assert!(rt; keeps_a_file(rt.alloc())?);
+        assert!(rt; keeps_a_line(rt.alloc())?);
         Ok(())
     }
 
@@ -86,22 +109,24 @@ mod tests {
         assert_eq!(rt; console.put(b"a line\n"), Ok(()));
     }
 
-    #[test]
-    fn a_folder_keeps_a_file(rt: HostRuntime) -> Result<(), Fail> {
-        let alloc = rt.alloc();
-        let mut cabinet = FolderCabinet::make(&rt);
+    fn keeps_a_file_in_the_folder(
+        alloc: Global,
+        cabinet: &mut FolderCabinet,
+    ) -> Result<bool, CabinetError> {
         let name = Bytes::from_slice(alloc, b"tu_outside.a_folder_keeps_a_file.tmp")?;
         let contents = Bytes::from_slice(alloc, b"hello")?;
         let absent = Bytes::from_slice(alloc, b"tu_outside.no_such_file.tmp")?;
-        assert!(rt; matches!(&cabinet.fetch(alloc, &absent, 9)?, Fetched::Absent));
+        let Fetched::Absent = cabinet.fetch(alloc, &absent, 9)? else {
+            return Ok(false);
+        };
         cabinet.keep(alloc, &name, &contents)?;
-        assert!(rt; matches!(&cabinet.fetch(alloc, &name, 4)?, Fetched::TooLong));
-        for most in [5, u64::MAX] {
-            let Fetched::Whole(found) = cabinet.fetch(alloc, &name, most)? else {
-                panic!(rt; "no file");
-            };
-            assert_eq!(rt; found.as_slice(), b"hello".as_slice());
-        }
+        is_fetched(alloc, cabinet, &name, b"hello")
+    }
+
+    #[test]
+    fn a_folder_keeps_a_file(rt: HostRuntime) -> Result<(), Fail> {
+        let mut cabinet = FolderCabinet::make(&rt);
+        assert!(rt; keeps_a_file_in_the_folder(rt.alloc(), &mut cabinet)?);
         Ok(())
     }
 

@@ -15,11 +15,17 @@ use std::marker::Model;
 use tu_base::{Bytes, Memory, Numbers};
 
 /// Files in memory. Chosen calls fail.
-#[derive(Drop)]
 pub struct MemoryCabinet {
     // What was kept, the newest first: the first entry of a name has the file's contents.
     log: VecDeque<(Bytes, Bytes)>,
     plan: Plan,
+}
+
+// Written, so that a crate that drops this calls it, and does not prove anew how each part is dropped.
+impl Drop for MemoryCabinet {
+    fn drop(self) {
+        let MemoryCabinet { log: _, plan: _ } = self;
+    }
 }
 
 impl Model for MemoryCabinet {

@@ -18,10 +18,16 @@ enum Cell {
 }
 
 /// Notes in memory. Chosen calls fail.
-#[derive(Drop)]
 pub struct MemoryNotes {
     cells: Vec<Cell>,
     plan: Plan,
+}
+
+// Written, so that a crate that drops this calls it, and does not prove anew how each part is dropped.
+impl Drop for MemoryNotes {
+    fn drop(self) {
+        let MemoryNotes { cells: _, plan: _ } = self;
+    }
 }
 
 impl Model for MemoryNotes {

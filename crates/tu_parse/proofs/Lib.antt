@@ -1,4 +1,5 @@
-pub mod Starts
-pub mod Equal
-pub mod Arms
-pub mod Places
+-- of this crate alone
+mod Starts
+mod Equal
+mod Arms
+mod Places

@@ -1,4 +1,4 @@
--- What begins a part of a block, a program or a module.
+-- A subprogram among the items of a program and the parts of a module.
 use Rattle.std.proofs.Common.{◌≡◌, ◌⊎◌, inl, inr, refl}
 use Rattle.grammar.specs.Classes.{is_among}
 use Rattle.grammar.specs.Description.{rule}
@@ -15,19 +15,6 @@ use Rattle.tu_reader.specs.Ahead.{Ahead, class_of}
 use Rattle.tu_reader.specs.Reads.{Stops}
 use Rattle.tu_reader.specs.declared.stop.Stop.{Stop}
 use Rattle.tu_reader.proofs.Choices.{is_at, choice_stops}
-use Rattle.tu_parse.specs.Beginnings.{begins_block_part, begins_item, begins_module_part}
-
-pub of_block_part : (c : Class) → begins_block_part c ≡ is_among (number c) (first table block_part)
-of_block_part Name = refl
-of_block_part c = refl
-
-pub of_item : (c : Class) → begins_item c ≡ is_among (number c) (first table (rule r-item))
-of_item Name = refl
-of_item c = refl
-
-pub of_module_part : (c : Class) → begins_module_part c ≡ is_among (number c) (first table module_part)
-of_module_part Name = refl
-of_module_part c = refl
 
 -- one of the words with which a subprogram begins
 abbrev IsSubprogram : Class → Type 0

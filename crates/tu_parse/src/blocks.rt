@@ -1,11 +1,14 @@
 ghost use Rattle.std.specs.Prelude.{◌≡◌, ◌+◌, ◌*◌, ◌<◌, ◌≤◌, length, IfOk};
+ghost use Rattle.grammar.specs.Classes.{is_among};
 ghost use Rattle.grammar.specs.Description.{rule};
-ghost use Rattle.tu_token.specs.Rules.{body, r-block};
+ghost use Rattle.grammar.specs.Grammar.{first};
+ghost use Rattle.tu_token.specs.ClassNumbers.{number};
+ghost use Rattle.tu_token.specs.Rules.{body, r-block, r-statement};
+ghost use Rattle.tu_token.specs.Table.{table};
 ghost use Rattle.tu_tree.specs.StatementViews.{block_part, block_part_view};
 ghost use Rattle.tu_reader.specs.Ahead.{weight, HasRoom};
 ghost use Rattle.tu_reader.specs.Nests.{Nests};
 ghost use Rattle.tu_reader.specs.Reads.{Reads, Begins};
-ghost use Rattle.tu_parse.specs.Beginnings.{begins_statement, begins_block_part};
 
 use sqlite_items::Items;
 use std::alloc::Global;
@@ -24,7 +27,7 @@ pub struct BlockReader<B> {
 
 /// Whether a statement begins with a token of the class.
 pub fn begins_statement(class: Class) -> bool
-    ensures { result ≡ begins_statement class }
+    ensures { result ≡ is_among (number class) (first table (rule r-statement)) }
 {
     matches!(
         class,
@@ -45,12 +48,13 @@ pub fn begins_statement(class: Class) -> bool
             | Class::WordGet
             | Class::WordOpen
             | Class::WordClose
+            | Class::WordQuit
     )
 }
 
 // Whether a part of a block begins with a token of the class.
 fn begins_block_part(class: Class) -> bool
-    ensures { result ≡ begins_block_part class }
+    ensures { result ≡ is_among (number class) (first table block_part) }
 {
     match class {
         Class::WordConst | Class::WordVar | Class::WordType | Class::WordBind => true,

@@ -1,9 +1,9 @@
-//! The parser: from tokens to the tree of a program.
+//! The parser, third part: blocks, statements, subprograms, modules and whole programs, and `parse`, which is the way in. Its
+//! first part, tu_reader, has the tokens that are left and expressions; its second, tu_types_reader, types, declarations and clauses.
+//! `flatten`, the way back from a tree to tokens, is handed on from tu_flatten.
 #![tactic(auto)]
 
 mod blocks;
-mod clauses;
-mod imports;
 mod parser;
 mod programs;
 mod simple;
@@ -11,3 +11,4 @@ mod statements;
 mod subprograms;
 
 pub use parser::parse;
+pub use tu_flatten::{flatten, spelled_bytes};

@@ -1,10 +1,11 @@
-ghost use Rattle.std.specs.Prelude.{◌≡◌, ◌+◌, ◌*◌, ◌<◌, ◌≤◌, length, true, IfOk};
+ghost use Rattle.std.specs.Prelude.{◌≡◌, ◌+◌, ◌*◌, ◌<◌, ◌≤◌, [], ◌∷◌, Some, length, true, IfOk};
 ghost use Rattle.grammar.specs.Description.{rule};
+ghost use Rattle.grammar.specs.Tree.{n-sequence, n-token};
 ghost use Rattle.tu_token.specs.Rules.{◌⨟◌, ◌∣◌, t, listed, maybe, body, r-expr, r-shown, r-statement, r-taken};
-ghost use Rattle.tu_token.specs.declared.class.Class.TheVariants.{Name, SignColon, SignComma, SignStar, WordAssert, WordClose, WordExit, WordFree, WordGet, WordNew, WordOpen, WordPut, WordResult, WordTag};
+ghost use Rattle.tu_token.specs.declared.class.Class.TheVariants.{Name, SignColon, SignComma, SignStar, WordAssert, WordBegin, WordCase, WordClose, WordExit, WordFor, WordFree, WordGet, WordIf, WordLoop, WordNew, WordOpen, WordPut, WordQuit, WordResult, WordTag};
 ghost use Rattle.tu_expr.specs.Parts.{listing};
-ghost use Rattle.tu_tree.specs.StatementViews.{amount_view, mode_view, statement_view, stream_view, width_view};
-ghost use Rattle.tu_reader.specs.Ahead.{weight};
+ghost use Rattle.tu_tree.specs.StatementViews.{amount_view, mode_view, modes, statement_view, stream_view, width_view};
+ghost use Rattle.tu_reader.specs.Ahead.{weight, class_of, IsNone};
 ghost use Rattle.tu_reader.specs.Reads.{Reads, Sees};
 
 use sqlite_items::{Boxed, Items};
@@ -12,8 +13,42 @@ use std::alloc::Global;
 use tu_reader::{Cursor, Stop, expr, path};
 use tu_tree::{Amount, Class, Expr, OpenMode, Shown, StatementForm, Taken};
 
-/// An assignment or a call.
-pub fn change(alloc: Global, tokens: &mut Cursor<'_>, depth: u32) -> Result<StatementForm, Stop>
+/// A statement without blocks, which begins with a token of the class.
+pub fn simple(
+    alloc: Global,
+    tokens: &mut Cursor<'_>,
+    depth: u32,
+    class: Class,
+) -> Result<StatementForm, Stop>
+    requires room { weight tokens.old + 24 ≤ depth }
+    requires next { Some class ≡ class_of tokens.old.tokens }
+    requires simple { IsNone class (WordIf ∷ (WordLoop ∷ (WordFor ∷ (WordCase ∷ (WordBegin ∷ []))))) }
+    ensures reads { Reads (body r-statement) statement_view result tokens.old tokens.new }
+    ensures less { IfOk result (λ _. weight tokens.new + 31 ≤ weight tokens.old) }
+{
+    match class {
+        Class::Name => change(alloc, tokens, depth),
+        Class::WordExit => exit(alloc, tokens, depth),
+        Class::WordReturn => {
+            tokens.skip(Class::WordReturn);
+            Ok(StatementForm::Return)
+        }
+        Class::WordResult => result(alloc, tokens, depth),
+        Class::WordAssert => assertion(alloc, tokens, depth),
+        Class::WordNew => creation(alloc, tokens, depth),
+        Class::WordFree => removal(alloc, tokens, depth),
+        Class::WordTag => tagging(alloc, tokens, depth),
+        Class::WordPut => put(alloc, tokens, depth),
+        Class::WordGet => get(alloc, tokens, depth),
+        Class::WordOpen => opening(alloc, tokens, depth),
+        Class::WordClose => closing(alloc, tokens, depth),
+        Class::WordQuit => quit(alloc, tokens, depth),
+        _ => Err(Stop::Unexpected),
+    }
+}
+
+// An assignment or a call.
+fn change(alloc: Global, tokens: &mut Cursor<'_>, depth: u32) -> Result<StatementForm, Stop>
     requires room { weight tokens.old + 24 ≤ depth }
     requires seen { Sees Name tokens.old true }
     ensures reads { Reads (body r-statement) statement_view result tokens.old tokens.new }
@@ -27,7 +62,7 @@ pub fn change(alloc: Global, tokens: &mut Cursor<'_>, depth: u32) -> Result<Stat
     Ok(StatementForm::Call(path))
 }
 
-pub fn exit(alloc: Global, tokens: &mut Cursor<'_>, depth: u32) -> Result<StatementForm, Stop>
+fn exit(alloc: Global, tokens: &mut Cursor<'_>, depth: u32) -> Result<StatementForm, Stop>
     requires room { weight tokens.old + 24 ≤ depth }
     requires seen { Sees WordExit tokens.old true }
     ensures reads { Reads (body r-statement) statement_view result tokens.old tokens.new }
@@ -41,7 +76,7 @@ pub fn exit(alloc: Global, tokens: &mut Cursor<'_>, depth: u32) -> Result<Statem
     Ok(StatementForm::Exit)
 }
 
-pub fn result(alloc: Global, tokens: &mut Cursor<'_>, depth: u32) -> Result<StatementForm, Stop>
+fn result(alloc: Global, tokens: &mut Cursor<'_>, depth: u32) -> Result<StatementForm, Stop>
     requires room { weight tokens.old + 24 ≤ depth }
     requires seen { Sees WordResult tokens.old true }
     ensures reads { Reads (body r-statement) statement_view result tokens.old tokens.new }
@@ -52,7 +87,7 @@ pub fn result(alloc: Global, tokens: &mut Cursor<'_>, depth: u32) -> Result<Stat
     Ok(StatementForm::Result(Boxed::new(alloc, value)?))
 }
 
-pub fn assertion(alloc: Global, tokens: &mut Cursor<'_>, depth: u32) -> Result<StatementForm, Stop>
+fn assertion(alloc: Global, tokens: &mut Cursor<'_>, depth: u32) -> Result<StatementForm, Stop>
     requires room { weight tokens.old + 24 ≤ depth }
     requires seen { Sees WordAssert tokens.old true }
     ensures reads { Reads (body r-statement) statement_view result tokens.old tokens.new }
@@ -63,7 +98,7 @@ pub fn assertion(alloc: Global, tokens: &mut Cursor<'_>, depth: u32) -> Result<S
     Ok(StatementForm::Assert(Boxed::new(alloc, condition)?))
 }
 
-pub fn creation(alloc: Global, tokens: &mut Cursor<'_>, depth: u32) -> Result<StatementForm, Stop>
+fn creation(alloc: Global, tokens: &mut Cursor<'_>, depth: u32) -> Result<StatementForm, Stop>
     requires room { weight tokens.old + 24 ≤ depth }
     requires seen { Sees WordNew tokens.old true }
     ensures reads { Reads (body r-statement) statement_view result tokens.old tokens.new }
@@ -76,7 +111,7 @@ pub fn creation(alloc: Global, tokens: &mut Cursor<'_>, depth: u32) -> Result<St
     Ok(StatementForm::New(collection, pointer))
 }
 
-pub fn removal(alloc: Global, tokens: &mut Cursor<'_>, depth: u32) -> Result<StatementForm, Stop>
+fn removal(alloc: Global, tokens: &mut Cursor<'_>, depth: u32) -> Result<StatementForm, Stop>
     requires room { weight tokens.old + 24 ≤ depth }
     requires seen { Sees WordFree tokens.old true }
     ensures reads { Reads (body r-statement) statement_view result tokens.old tokens.new }
@@ -89,7 +124,7 @@ pub fn removal(alloc: Global, tokens: &mut Cursor<'_>, depth: u32) -> Result<Sta
     Ok(StatementForm::Free(collection, pointer))
 }
 
-pub fn tagging(alloc: Global, tokens: &mut Cursor<'_>, depth: u32) -> Result<StatementForm, Stop>
+fn tagging(alloc: Global, tokens: &mut Cursor<'_>, depth: u32) -> Result<StatementForm, Stop>
     requires room { weight tokens.old + 24 ≤ depth }
     requires seen { Sees WordTag tokens.old true }
     ensures reads { Reads (body r-statement) statement_view result tokens.old tokens.new }
@@ -102,7 +137,7 @@ pub fn tagging(alloc: Global, tokens: &mut Cursor<'_>, depth: u32) -> Result<Sta
     Ok(StatementForm::Tag(path, Boxed::new(alloc, value)?))
 }
 
-pub fn put(alloc: Global, tokens: &mut Cursor<'_>, depth: u32) -> Result<StatementForm, Stop>
+fn put(alloc: Global, tokens: &mut Cursor<'_>, depth: u32) -> Result<StatementForm, Stop>
     requires room { weight tokens.old + 24 ≤ depth }
     requires seen { Sees WordPut tokens.old true }
     ensures reads { Reads (body r-statement) statement_view result tokens.old tokens.new }
@@ -120,7 +155,7 @@ pub fn put(alloc: Global, tokens: &mut Cursor<'_>, depth: u32) -> Result<Stateme
     })
 }
 
-pub fn get(alloc: Global, tokens: &mut Cursor<'_>, depth: u32) -> Result<StatementForm, Stop>
+fn get(alloc: Global, tokens: &mut Cursor<'_>, depth: u32) -> Result<StatementForm, Stop>
     requires room { weight tokens.old + 24 ≤ depth }
     requires seen { Sees WordGet tokens.old true }
     ensures reads { Reads (body r-statement) statement_view result tokens.old tokens.new }
@@ -143,8 +178,9 @@ fn stream(alloc: Global, tokens: &mut Cursor<'_>, depth: u32) -> Result<Option<B
 {
     if tokens.eat(Class::SignColon) {
         let stream = expr(alloc, tokens, depth)?;
+        let stream = Boxed::new(alloc, stream)?;
         tokens.expect(Class::SignComma)?;
-        return Ok(Some(Boxed::new(alloc, stream)?));
+        return Ok(Some(stream));
     }
     Ok(None)
 }
@@ -238,7 +274,7 @@ fn amount(alloc: Global, tokens: &mut Cursor<'_>, depth: u32) -> Result<Amount, 
     Ok(Amount::Token)
 }
 
-pub fn opening(alloc: Global, tokens: &mut Cursor<'_>, depth: u32) -> Result<StatementForm, Stop>
+fn opening(alloc: Global, tokens: &mut Cursor<'_>, depth: u32) -> Result<StatementForm, Stop>
     requires room { weight tokens.old + 24 ≤ depth }
     requires seen { Sees WordOpen tokens.old true }
     ensures reads { Reads (body r-statement) statement_view result tokens.old tokens.new }
@@ -248,14 +284,29 @@ pub fn opening(alloc: Global, tokens: &mut Cursor<'_>, depth: u32) -> Result<Sta
     tokens.expect(Class::SignColon)?;
     let path = path(alloc, tokens, depth)?;
     tokens.expect(Class::SignComma)?;
+    let (name, mode) = named_mode(alloc, tokens, depth)?;
+    Ok(StatementForm::Open(path, name, mode))
+}
+
+// The name of a file, and what its stream is opened for.
+fn named_mode(
+    alloc: Global,
+    tokens: &mut Cursor<'_>,
+    depth: u32,
+) -> Result<(Boxed<Expr>, OpenMode), Stop>
+    requires { weight tokens.old + 24 ≤ depth }
+    ensures reads { Reads (rule r-expr ⨟ (t SignComma ⨟ modes)) (λ x. n-sequence x.0 (n-sequence n-token (mode_view x.1))) result tokens.old tokens.new }
+    ensures less { IfOk result (λ _. weight tokens.new ≤ weight tokens.old) }
+{
     let name = expr(alloc, tokens, depth)?;
+    let name = Boxed::new(alloc, name)?;
     tokens.expect(Class::SignComma)?;
     let mode = mode(tokens)?;
-    Ok(StatementForm::Open(path, Boxed::new(alloc, name)?, mode))
+    Ok((name, mode))
 }
 
 fn mode(tokens: &mut Cursor<'_>) -> Result<OpenMode, Stop>
-    ensures reads { Reads (t WordPut ∣ t WordGet) mode_view result tokens.old tokens.new }
+    ensures reads { Reads modes mode_view result tokens.old tokens.new }
     ensures less { IfOk result (λ _. weight tokens.new ≤ weight tokens.old) }
 {
     if tokens.sees(Class::WordPut) {
@@ -266,7 +317,7 @@ fn mode(tokens: &mut Cursor<'_>) -> Result<OpenMode, Stop>
     Ok(OpenMode::Get)
 }
 
-pub fn closing(alloc: Global, tokens: &mut Cursor<'_>, depth: u32) -> Result<StatementForm, Stop>
+fn closing(alloc: Global, tokens: &mut Cursor<'_>, depth: u32) -> Result<StatementForm, Stop>
     requires room { weight tokens.old + 24 ≤ depth }
     requires seen { Sees WordClose tokens.old true }
     ensures reads { Reads (body r-statement) statement_view result tokens.old tokens.new }
@@ -276,4 +327,18 @@ pub fn closing(alloc: Global, tokens: &mut Cursor<'_>, depth: u32) -> Result<Sta
     tokens.expect(Class::SignColon)?;
     let stream = expr(alloc, tokens, depth)?;
     Ok(StatementForm::Close(Boxed::new(alloc, stream)?))
+}
+
+fn quit(alloc: Global, tokens: &mut Cursor<'_>, depth: u32) -> Result<StatementForm, Stop>
+    requires room { weight tokens.old + 24 ≤ depth }
+    requires seen { Sees WordQuit tokens.old true }
+    ensures reads { Reads (body r-statement) statement_view result tokens.old tokens.new }
+    ensures less { IfOk result (λ _. weight tokens.new + 31 ≤ weight tokens.old) }
+{
+    tokens.skip(Class::WordQuit);
+    if tokens.eat(Class::SignColon) {
+        let number = expr(alloc, tokens, depth)?;
+        return Ok(StatementForm::QuitWith(Boxed::new(alloc, number)?));
+    }
+    Ok(StatementForm::Quit)
 }

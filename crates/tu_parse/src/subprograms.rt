@@ -1,23 +1,27 @@
 ghost use Rattle.std.specs.Prelude.{◌≡◌, ◌+◌, ◌*◌, ◌<◌, ◌≤◌, length, true, IfOk};
 ghost use Rattle.grammar.specs.Description.{rule};
 ghost use Rattle.grammar.specs.Tree.{n-sequence, n-token};
-ghost use Rattle.tu_token.specs.Rules.{◌⨟◌, ◌∣◌, t, maybe, listed, body, r-formal, r-formals, r-head, r-rest, r-subprogram};
-ghost use Rattle.tu_token.specs.declared.class.Class.TheVariants.{SignRightBracket, WordBody, WordForward, WordFunction, WordProcedure};
+ghost use Rattle.tu_token.specs.Rules.{◌⨟◌, ◌∣◌, t, maybe, listed, body, r-block, r-ending, r-formal, r-formals, r-handler, r-head, r-rest, r-spec, r-subprogram};
+ghost use Rattle.tu_token.specs.declared.class.Class.TheVariants.{Name, SignColon, SignRightBracket, WordBody, WordForward, WordFunction, WordProcedure};
 ghost use Rattle.tu_expr.specs.Parts.{any_listing, optional};
+ghost use Rattle.tu_tree.specs.TypeViews.{tag_view};
 ghost use Rattle.tu_tree.specs.SubprogramViews.{head_view, kind_view, subprogram_view};
 ghost use Rattle.tu_reader.specs.Ahead.{weight};
 ghost use Rattle.tu_reader.specs.Reads.{Reads, Sees};
 
 use crate::blocks::block;
-use crate::clauses::{ending, optional_givens, optional_post, optional_pre};
-use crate::imports::optional_import;
 use sqlite_items::Items;
 use std::alloc::Global;
+use tu_base::Held;
 use tu_reader::{Cursor, Stop};
 use tu_tree::{
-    Class, Formal, Formals, Head, HeadForm, Rest, Subprogram, SubprogramForm, SubprogramKind,
+    Block, Class, Ending, Formal, Formals, Handler, Head, HeadForm, Leaf, Rest, Spec, Subprogram,
+    SubprogramForm, SubprogramKind,
 };
-use tu_types_reader::{names, optional_name, spec};
+use tu_types_reader::{
+    ending, names, optional_givens, optional_import, optional_name, optional_post, optional_pre,
+    spec,
+};
 
 /// A subprogram, or its head or body alone.
 pub fn subprogram(alloc: Global, tokens: &mut Cursor<'_>, depth: u32) -> Result<Subprogram, Stop>
@@ -46,8 +50,10 @@ fn subprogram_form(
         return body_alone(alloc, tokens, depth);
     }
     let head = head(alloc, tokens, depth)?;
+    let head = Held::new(head);
     let import = optional_import(alloc, tokens)?;
     let rest = rest(alloc, tokens, depth)?;
+    let head = head.into_inner();
     Ok(SubprogramForm::Whole(head, import, rest))
 }
 
@@ -59,7 +65,9 @@ fn forward(alloc: Global, tokens: &mut Cursor<'_>, depth: u32) -> Result<Subprog
 {
     tokens.skip(Class::WordForward);
     let head = head(alloc, tokens, depth)?;
+    let head = Held::new(head);
     let import = optional_import(alloc, tokens)?;
+    let head = head.into_inner();
     Ok(SubprogramForm::Forward(head, import))
 }
 
@@ -112,15 +120,29 @@ fn head_form(alloc: Global, tokens: &mut Cursor<'_>, depth: u32) -> Result<HeadF
     tokens.expect(Class::WordFunction)?;
     let name = tokens.leaf(alloc, Class::Name)?;
     let formals = optional_formals(alloc, tokens, depth)?;
-    let result = optional_name(alloc, tokens)?;
-    tokens.expect(Class::SignColon)?;
-    let spec = spec(alloc, tokens, depth)?;
+    let (result, spec) = result_type(alloc, tokens, depth)?;
     Ok(HeadForm::Function {
         name,
         formals,
         result,
         spec,
     })
+}
+
+// The name of a function's result, if it has one, and the type.
+fn result_type(
+    alloc: Global,
+    tokens: &mut Cursor<'_>,
+    depth: u32,
+) -> Result<(Option<Leaf>, Spec), Stop>
+    requires { weight tokens.old ≤ depth }
+    ensures reads { Reads (maybe (t Name) ⨟ (t SignColon ⨟ rule r-spec)) (λ x. n-sequence (tag_view x.0) (n-sequence n-token x.1)) result tokens.old tokens.new }
+    ensures less { IfOk result (λ _. weight tokens.new ≤ weight tokens.old) }
+{
+    let result = optional_name(alloc, tokens)?;
+    tokens.expect(Class::SignColon)?;
+    let spec = spec(alloc, tokens, depth)?;
+    Ok((result, spec))
 }
 
 fn optional_formals(
@@ -189,22 +211,82 @@ fn formal(alloc: Global, tokens: &mut Cursor<'_>, depth: u32) -> Result<Formal, 
     })
 }
 
-fn rest(alloc: Global, tokens: &mut Cursor<'_>, depth: u32) -> Result<Rest, Stop>
+fn handler(alloc: Global, tokens: &mut Cursor<'_>, depth: u32) -> Result<Handler, Stop>
     requires { weight tokens.old + 30 ≤ depth }
+    ensures reads { Reads (rule r-handler) (λ x. x) result tokens.old tokens.new }
+    ensures less { IfOk result (λ _. weight tokens.new + 31 ≤ weight tokens.old) }
+{
+    let spot = tokens.spot();
+    tokens.expect(Class::WordHandler)?;
+    tokens.expect(Class::SignLeftBracket)?;
+    let name = tokens.leaf(alloc, Class::Name)?;
+    tokens.expect(Class::SignRightBracket)?;
+    let block = block(alloc, tokens, depth)?;
+    tokens.end(Class::WordHandler)?;
+    Ok(Handler { spot, name, block })
+}
+
+fn optional_handler(
+    alloc: Global,
+    tokens: &mut Cursor<'_>,
+    depth: u32,
+) -> Result<Option<Handler>, Stop>
+    requires { weight tokens.old + 30 ≤ depth }
+    ensures reads { Reads (maybe (rule r-handler)) (optional (rule r-handler)) result tokens.old tokens.new }
+    ensures less { IfOk result (λ _. weight tokens.new ≤ weight tokens.old) }
+{
+    if tokens.sees(Class::WordHandler) {
+        let handler = handler(alloc, tokens, depth)?;
+        return Ok(Some(handler));
+    }
+    Ok(None)
+}
+
+// A body, and the end of its subprogram.
+fn body(alloc: Global, tokens: &mut Cursor<'_>, depth: u32) -> Result<(Block, Ending), Stop>
+    requires { weight tokens.old + 28 ≤ depth }
+    ensures reads { Reads (rule r-block ⨟ rule r-ending) (λ x. n-sequence x.0 x.1) result tokens.old tokens.new }
+    ensures less { IfOk result (λ _. weight tokens.new + 30 ≤ weight tokens.old) }
+{
+    let block = block(alloc, tokens, depth)?;
+    let ending = ending(alloc, tokens)?;
+    Ok((block, ending))
+}
+
+// The handler, if there is one, and what stands behind it.
+fn handled_body(
+    alloc: Global,
+    tokens: &mut Cursor<'_>,
+    depth: u32,
+) -> Result<(Option<Handler>, (Block, Ending)), Stop>
+    requires { weight tokens.old + 30 ≤ depth }
+    ensures reads { Reads (maybe (rule r-handler) ⨟ (rule r-block ⨟ rule r-ending)) (λ x. n-sequence (optional (rule r-handler) x.0) (n-sequence x.1.0 x.1.1)) result tokens.old tokens.new }
+    ensures less { IfOk result (λ _. weight tokens.new + 30 ≤ weight tokens.old) }
+{
+    let handler = optional_handler(alloc, tokens, depth)?;
+    let body = body(alloc, tokens, depth)?;
+    Ok((handler, body))
+}
+
+fn rest(alloc: Global, tokens: &mut Cursor<'_>, depth: u32) -> Result<Rest, Stop>
+    requires { weight tokens.old + 31 ≤ depth }
     ensures reads { Reads (rule r-rest) (λ x. x) result tokens.old tokens.new }
     ensures less { IfOk result (λ _. weight tokens.new ≤ weight tokens.old) }
 {
     let at = tokens.mark();
     let pre = optional_pre(alloc, tokens, depth)?;
     let givens = optional_givens(alloc, tokens, depth)?;
+    let givens = Held::new(givens);
     let post = optional_post(alloc, tokens, depth)?;
-    let block = block(alloc, tokens, depth)?;
-    let ending = ending(alloc, tokens)?;
+    let (handler, body) = handled_body(alloc, tokens, depth)?;
+    let (block, ending) = body;
+    let givens = givens.into_inner();
     Ok(Rest {
         at,
         pre,
         givens,
         post,
+        handler,
         block,
         ending,
     })

@@ -15,7 +15,7 @@ use Rattle.tu_token.specs.ClassNumbers.{number, lexemes}
 use Rattle.tu_token.specs.Rules.{Rule}
 use Rattle.tu_token.specs.Table.{table}
 use Rattle.tu_expr.specs.Parts.{Part}
-use Rattle.tu_reader.specs.Ahead.{Ahead, input, class_of}
+use Rattle.tu_reader.specs.Ahead.{IsNone, Ahead, input, class_of}
 use Rattle.tu_reader.specs.Reads.{Takes, Stops, Starts, Sees, Begins}
 use Rattle.tu_reader.specs.declared.stop.Stop.{Stop}
 use Rattle.tu_reader.specs.declared.stop.Stop.TheVariants.{Unexpected}
@@ -101,11 +101,6 @@ choice_stops at (repetition a) p = p
 choice_stops at (rule n) p = p
 choice_stops at (span long short b) p = p
 choice_stops {k = k} at (choice a b) p = picked_stops (is_among (number k) (first table a)) (begins_at at (first table a)) p (choice_stops at b)
-
--- a class that is none of some
-abbrev pub IsNone : Class → List Class → Type 0
-IsNone c [] = Unit {0}
-IsNone c (k ∷ classes) = (c ≡ k → ⊥) × IsNone c classes
 
 not_among : (c : Class) (classes : List Class) → IsNone c classes → is_among (number c) (map number classes) ≡ false
 not_among c [] h = refl

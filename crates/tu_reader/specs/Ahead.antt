@@ -1,5 +1,5 @@
 -- What stands before a reader: the tokens that are left, the end, and the number of the next node.
-use Rattle.std.specs.Prelude.{ℕ, ◌+◌, ◌*◌, ◌^◌, ◌<◌, ◌≤◌, List, [], ◌∷◌, Option, Some, None, length}
+use Rattle.std.specs.Prelude.{◌≡◌, ℕ, ◌+◌, ◌*◌, ◌^◌, ◌<◌, ◌≤◌, List, [], ◌∷◌, Option, Some, None, length}
 use Rattle.grammar.specs.Placed.{Place, Input}
 use Rattle.tu_token.specs.ClassNumbers.{places}
 use Rattle.tu_token.specs.declared.class.Class.{Class}
@@ -26,3 +26,8 @@ HasRoom most more a = (weight a + more ≤ most) × (most < 2 ^ 32)
 abbrev pub class_of : List Token → Option Class
 class_of [] = None
 class_of (token ∷ tokens) = Some token.class
+
+-- a class that is none of some
+abbrev pub IsNone : Class → List Class → Type 0
+IsNone c [] = Unit {0}
+IsNone c (k ∷ classes) = (c ≡ k → ⊥) × IsNone c classes

@@ -1,7 +1,7 @@
 -- What a function of the reader promises.
-use Rattle.std.specs.Prelude.{◌≡◌, ℕ, ◌+◌, Bool, true, false, List, [], ◌∷◌, Option, Some, None, Result, MatchResult}
+use Rattle.std.specs.Prelude.{◌≡◌, ℕ, ◌+◌, Bool, true, false, List, [], ◌∷◌, ◌++◌, Option, Some, None, Result, MatchResult}
 use Rattle.grammar.specs.Classes.{starts}
-use Rattle.grammar.specs.Description.{Description, empty}
+use Rattle.grammar.specs.Description.{Description, empty, rule}
 use Rattle.grammar.specs.Grammar.{numbered, placed, first}
 use Rattle.grammar.specs.Placed.{Stands, mark_at}
 use Rattle.grammar.specs.Reading.{found, fault, read}
@@ -9,6 +9,7 @@ use Rattle.grammar.specs.Tree.{Mark, n-token, n-empty, erase}
 use Rattle.tu_token.specs.declared.class.Class.{Class}
 use Rattle.tu_token.specs.ClassNumbers.{number, lexemes}
 use Rattle.tu_token.specs.Rules.{Rule, t}
+use Rattle.tu_token.specs.Syntax.{Of}
 use Rattle.tu_token.specs.Table.{table}
 use Rattle.tu_expr.specs.Parts.{Part}
 use Rattle.tu_reader.specs.Ahead.{Ahead, input}
@@ -62,3 +63,7 @@ pub record Marks (m : Mark) (i j : Ahead) : Type 0 where
 -- a part without a number begins here
 pub record IsSpot (m : Mark) (i : Ahead) : Type 0 where
   pub is_mark : m ≡ mark_at placed (input i)
+
+-- the grammar's reader finds one more part before what i is, and it was added to those before
+abbrev pub Adds : {U : Type 0} (n : Rule) → Result U Stop → List (Of n) → List (Of n) → Ahead → Ahead → Type 0
+Adds n r old new i j = MatchResult r (λ _. (x : Of n) × (new ≡ old ++ x ∷ []) × Takes (rule n) i x j) (λ e. Stops (rule n) i e j)

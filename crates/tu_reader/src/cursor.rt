@@ -1,7 +1,8 @@
 ghost use Rattle.std.specs.Prelude.{◌≡◌, ℕ, ◌+◌, ◌*◌, ◌<◌, ◌≤◌, true, false, cond, IfOk, length};
-ghost use Rattle.grammar.specs.Tree.{n-token};
+ghost use Rattle.grammar.specs.Tree.{n-sequence, n-token};
 ghost use Rattle.tu_token.specs.ClassNumbers.{number, keeps_text, end_of};
-ghost use Rattle.tu_token.specs.Rules.{t};
+ghost use Rattle.tu_token.specs.Rules.{◌⨟◌, t};
+ghost use Rattle.tu_token.specs.declared.class.Class.TheVariants.{WordEnd};
 ghost use Rattle.tu_expr.specs.Leaves.{mark, spot_mark, leaf_view};
 ghost use Rattle.tu_reader.specs.Ahead.{weight, class_of};
 ghost use Rattle.tu_reader.specs.Reads.{Reads, Takes, Sees, Eats, Marks, IsSpot};
@@ -123,6 +124,17 @@ impl<'a> Cursor<'a> {
             Some(_) => Ok(()),
             None => Err(Stop::Unexpected),
         }
+    }
+
+    /// Takes `end` and a word of the class.
+    pub fn end(&mut self, class: Class) -> Result<(), Stop>
+        requires { keeps_text (number class) ≡ false }
+        ensures reads { Reads (t WordEnd ⨟ t class) (λ _. n-sequence n-token n-token) result self.old self.new }
+        ensures less { IfOk result (λ _. weight self.new + 128 ≤ weight self.old) }
+    {
+        self.expect(Class::WordEnd)?;
+        self.expect(class)?;
+        Ok(())
     }
 
     /// Takes a name, a number or a text.

@@ -11,6 +11,7 @@ use crate::operator::{begins_relation, multiplication, relation, sign};
 use crate::{Cursor, Stop};
 use sqlite_items::{Boxed, Items};
 use std::alloc::Global;
+use tu_base::Held;
 use tu_expr::{And, Compare, Expr, Not, Or, Path, Power, Prefix, Primary, PrimaryForm, Sum, Term};
 use tu_token::Class;
 
@@ -58,11 +59,13 @@ impl<
     {
         let at = tokens.mark();
         let first = self.or(tokens)?;
+        let first = Held::new(first);
         let mut more = Items::new(self.alloc);
         while tokens.eat(Class::SignImplies) {
             let next = self.or(tokens)?;
             more.push(next)?;
         }
+        let first = first.into_inner();
         Ok(Expr { at, first, more })
     }
 
@@ -74,11 +77,13 @@ impl<
     {
         let at = tokens.mark();
         let first = self.and(tokens)?;
+        let first = Held::new(first);
         let mut more = Items::new(self.alloc);
         while tokens.eat(Class::WordOr) {
             let next = self.and(tokens)?;
             more.push(next)?;
         }
+        let first = first.into_inner();
         Ok(Or { at, first, more })
     }
 
@@ -90,11 +95,13 @@ impl<
     {
         let at = tokens.mark();
         let first = self.not(tokens)?;
+        let first = Held::new(first);
         let mut more = Items::new(self.alloc);
         while tokens.eat(Class::WordAnd) {
             let next = self.not(tokens)?;
             more.push(next)?;
         }
+        let first = first.into_inner();
         Ok(And { at, first, more })
     }
 
@@ -121,12 +128,14 @@ impl<
     {
         let at = tokens.mark();
         let first = self.sum(tokens)?;
+        let first = Held::new(first);
         let mut more = Items::new(self.alloc);
         while begins_relation(tokens) {
             let relation = relation(tokens)?;
             let next = self.sum(tokens)?;
             more.push((relation, next))?;
         }
+        let first = first.into_inner();
         Ok(Compare { at, first, more })
     }
 
@@ -138,11 +147,13 @@ impl<
     {
         let at = tokens.mark();
         let first = self.term(tokens)?;
+        let first = Held::new(first);
         let mut more = Items::new(self.alloc);
         while let Some(sign) = sign(tokens) {
             let next = self.term(tokens)?;
             more.push((sign, next))?;
         }
+        let first = first.into_inner();
         Ok(Sum { at, first, more })
     }
 
@@ -154,11 +165,13 @@ impl<
     {
         let at = tokens.mark();
         let first = self.prefix(tokens)?;
+        let first = Held::new(first);
         let mut more = Items::new(self.alloc);
         while let Some(multiplication) = multiplication(tokens) {
             let next = self.prefix(tokens)?;
             more.push((multiplication, next))?;
         }
+        let first = first.into_inner();
         Ok(Term { at, first, more })
     }
 
@@ -185,11 +198,13 @@ impl<
     {
         let at = tokens.mark();
         let first = self.primary(tokens)?;
+        let first = Held::new(first);
         let mut more = Items::new(self.alloc);
         while tokens.eat(Class::SignPower) {
             let next = self.primary(tokens)?;
             more.push(next)?;
         }
+        let first = first.into_inner();
         Ok(Power { at, first, more })
     }
 
@@ -246,8 +261,9 @@ impl<
     {
         tokens.skip(Class::SignLeftBracket);
         let inner = self.inner(tokens)?;
+        let inner = Boxed::new(self.alloc, inner)?;
         tokens.expect(Class::SignRightBracket)?;
-        Ok(PrimaryForm::Brackets(Boxed::new(self.alloc, inner)?))
+        Ok(PrimaryForm::Brackets(inner))
     }
 
     // A text, and the brackets behind it.

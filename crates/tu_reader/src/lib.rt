@@ -1,5 +1,5 @@
-//! The reader of tokens: the tokens that are left, what a function of the reader promises, and the
-//! functions for expressions.
+//! The parser, first part: the tokens that are left, what each function of the parser promises, and the functions for
+//! expressions. Types and declarations follow in tu_types_reader, and all else in tu_parse.
 #![tactic(auto)]
 
 mod cursor;

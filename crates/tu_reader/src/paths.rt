@@ -7,11 +7,12 @@ ghost use Rattle.tu_expr.specs.Parts.{any_listing};
 ghost use Rattle.tu_expr.specs.Views.{steps, step_view, arg_view, place_view};
 ghost use Rattle.tu_reader.specs.Ahead.{weight, HasRoom};
 ghost use Rattle.tu_reader.specs.Nests.{Nests};
-ghost use Rattle.tu_reader.specs.Reads.{Reads, Tries};
+ghost use Rattle.tu_reader.specs.Reads.{Adds, Reads, Tries};
 
 use crate::{Cursor, ExprReader, Stop};
 use sqlite_items::Items;
 use std::alloc::Global;
+use tu_base::Held;
 use tu_expr::{Arg, ArgForm, Expr, Path, Place, PlaceForm, Step, Term};
 use tu_token::Class;
 
@@ -66,14 +67,24 @@ impl<
             tokens.skip(Class::SignRightBracket);
             return Ok(args);
         }
-        let first = self.arg(tokens)?;
-        args.push(first)?;
+        self.add_arg(tokens, &mut args)?;
         while tokens.eat(Class::SignComma) {
-            let next = self.arg(tokens)?;
-            args.push(next)?;
+            self.add_arg(tokens, &mut args)?;
         }
         tokens.expect(Class::SignRightBracket)?;
         Ok(args)
+    }
+
+    // An argument, behind others.
+    fn add_arg(&self, tokens: &mut Cursor<'_>, args: &mut Items<Arg>) -> Result<(), Stop>
+        requires nests { Nests r-expr self.now.depth (E.pre self.now.expr) (E.post self.now.expr) × Nests r-term self.now.depth (T.pre self.now.term) (T.post self.now.term) }
+        requires room { HasRoom self.now.depth 42 tokens.old }
+        ensures adds { Adds r-arg result args.old args.new tokens.old tokens.new }
+        ensures less { IfOk result (λ _. weight tokens.new ≤ weight tokens.old + 3) }
+    {
+        let arg = self.arg(tokens)?;
+        args.push(arg)?;
+        Ok(())
     }
 
     /// An argument.
@@ -99,11 +110,12 @@ impl<
             return Ok(ArgForm::All);
         }
         let from = self.place(tokens)?;
+        let from = Held::new(from);
         if tokens.eat(Class::SignRange) {
             let to = self.place(tokens)?;
-            return Ok(ArgForm::Part(from, to));
+            return Ok(ArgForm::Part(from.into_inner(), to));
         }
-        Ok(ArgForm::One(from))
+        Ok(ArgForm::One(from.into_inner()))
     }
 
     fn place(&self, tokens: &mut Cursor<'_>) -> Result<Place, Stop>

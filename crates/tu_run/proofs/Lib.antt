@@ -1,7 +1,8 @@
-pub mod Budgets
-pub mod Answering
-pub mod Making
-pub mod Commands
-pub mod Words
-pub mod Verdicts
-pub mod Meant
+-- of this crate alone
+mod Budgets
+mod Answering
+mod Making
+mod Commands
+mod Words
+mod Verdicts
+mod Meant

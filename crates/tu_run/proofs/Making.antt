@@ -12,8 +12,8 @@ use Rattle.rv_image.specs.Picture.{Picture, IsImage, InRange, spelling}
 use Rattle.rv_image.specs.Reading.{reading, Gives}
 use Rattle.rv_image.specs.declared.image.ImageError.{ImageError}
 use Rattle.rv_image.specs.declared.image.ImageError.TheVariants.{Size, Short, Magic, Version, Length, Entry, Globals, Memory}
-use Rattle.tu_token.specs.declared.fault.Refusal.{Refusal}
-use Rattle.tu_token.specs.declared.fault.Refusal.TheVariants.{Size as refused_size}
+use Rattle.tu_check.specs.declared.refusal.Refusal.{Refusal}
+use Rattle.tu_check.specs.declared.refusal.Refusal.TheVariants.{Size as refused_size}
 use Rattle.tu_token.specs.Rules.{r-program}
 use Rattle.tu_token.specs.Syntax.{Of}
 use Rattle.tu_check.specs.declared.error.CheckError.{CheckError}

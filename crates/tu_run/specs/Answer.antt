@@ -15,7 +15,7 @@ use Rattle.rv_image.specs.Run.{machine_run}
 use Rattle.rv_image.specs.declared.image.ImageError.{ImageError}
 use Rattle.rv_image.specs.declared.image.ImageError.TheVariants.{Memory}
 use Rattle.rv_host.specs.Told.{ShowsTrace}
-use Rattle.tu_token.specs.declared.fault.Refusal.{Refusal}
+use Rattle.tu_check.specs.declared.refusal.Refusal.{Refusal}
 use Rattle.tu_token.specs.Rules.{r-program}
 use Rattle.tu_token.specs.Syntax.{Of}
 use Rattle.tu_check.specs.Refusals.{IsAccepted, IsRefused}

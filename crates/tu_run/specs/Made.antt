@@ -1,6 +1,7 @@
 -- What a file comes to, a step on the way to what a command answers: what is made of it, or the status that tells why there is none.
 use Rattle.std.specs.Prelude.{◌≡◌, ◌≢◌, ◌⊎◌, ℕ, true, false, ◌||◌, List, Option, Some, None, Result, Ok, Err}
 use Rattle.std.specs.FinMap as map
+use Rattle.tu_base.specs.declared.limits.TheConstants.{MOST_SOURCE_BYTES}
 use Rattle.tu_base.specs.Files.{Files}
 use Rattle.rv_image.specs.Picture.{Picture, IsImage}
 use Rattle.rv_image.specs.Reading.{reading}
@@ -10,8 +11,8 @@ use Rattle.rv_host.specs.declared.host.HostEnd.{HostEnd}
 use Rattle.rv_host.specs.declared.host.HostEnd.TheVariants.{Ended as host_ended, Stopped as host_stopped, Spent as host_spent, Fault as host_fault, ConsoleFault as host_console_fault, CabinetFault as host_cabinet_fault, Memory as host_memory}
 use Rattle.tu_outside.specs.Files.{IsFetched}
 use Rattle.tu_outside.specs.declared.cabinet.Fetched.TheVariants.{Whole, Absent, TooLong}
-use Rattle.tu_token.specs.declared.fault.Refusal.{Refusal}
-use Rattle.tu_token.specs.declared.fault.Refusal.TheVariants.{Size}
+use Rattle.tu_check.specs.declared.refusal.Refusal.{Refusal}
+use Rattle.tu_check.specs.declared.refusal.Refusal.TheVariants.{Size}
 use Rattle.tu_token.specs.Rules.{r-program}
 use Rattle.tu_token.specs.Syntax.{Of}
 use Rattle.tu_check.specs.declared.error.CheckError.{CheckError}
@@ -46,9 +47,9 @@ status_after (Err status) = status
 
 -- What a file comes to as a source of at most 1,048,576 bytes.
 abbrev pub Fetches : Option Files → List ℕ → Result (List ℕ) Status → Type 0
-Fetches told file (Ok source) = IsFetched told file 1048576 (Whole source)
-Fetches told file (Err NoFile) = IsFetched told file 1048576 Absent
-Fetches told file (Err (Refused Size)) = IsFetched told file 1048576 TooLong
+Fetches told file (Ok source) = IsFetched told file MOST_SOURCE_BYTES (Whole source)
+Fetches told file (Err NoFile) = IsFetched told file MOST_SOURCE_BYTES Absent
+Fetches told file (Err (Refused Size)) = IsFetched told file MOST_SOURCE_BYTES TooLong
 Fetches told file (Err status) = is_of_files status ≡ true
 
 -- What a source comes to: it is accepted, or the answer tells why it is not.

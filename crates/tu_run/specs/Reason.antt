@@ -2,16 +2,16 @@
 use Rattle.std.specs.Prelude.{ℕ, List, ◌++◌, codes, decimal}
 use Rattle.tu_token.specs.declared.fault.LexError.{LexError}
 use Rattle.tu_token.specs.declared.fault.LexError.TheVariants.{BadByte, BadNumber, OpenText, LongText, OpenComment, LongName, TooMany, TooDeep, Memory as lexical_memory}
-use Rattle.tu_token.specs.declared.fault.ScopeError.{ScopeError}
-use Rattle.tu_token.specs.declared.fault.ScopeError.TheVariants.{Unknown, NotImported, NotExported, Twice, BodyMissing, WrongEnd, Memory as scope_memory}
-use Rattle.tu_token.specs.declared.fault.TypeError.{TypeError}
-use Rattle.tu_token.specs.declared.fault.TypeError.TheVariants.{Misplaced, Mismatch, NotConstant, OutOfRange, NotVariable, BadCount, TooLarge, NotBuilt, Memory as types_memory}
-use Rattle.tu_token.specs.declared.fault.EffectError.{EffectError}
-use Rattle.tu_token.specs.declared.fault.EffectError.TheVariants.{FunctionVar, FunctionWrites, FunctionTalks, UnlistedWrite, Memory as effects_memory}
-use Rattle.tu_token.specs.declared.fault.AliasError.{AliasError}
-use Rattle.tu_token.specs.declared.fault.AliasError.TheVariants.{SharedActual, ImportedActual, HiddenRoot, ChangedBound, Memory as overlap_memory}
-use Rattle.tu_token.specs.declared.fault.Refusal.{Refusal}
-use Rattle.tu_token.specs.declared.fault.Refusal.TheVariants.{Size, Lexical, Syntax, Scope, Types, Effects, Overlap}
+use Rattle.tu_check.specs.declared.refusal.ScopeError.{ScopeError}
+use Rattle.tu_check.specs.declared.refusal.ScopeError.TheVariants.{Unknown, NotImported, NotExported, Twice, BodyMissing, WrongEnd, Memory as scope_memory}
+use Rattle.tu_check.specs.declared.refusal.TypeError.{TypeError}
+use Rattle.tu_check.specs.declared.refusal.TypeError.TheVariants.{Misplaced, Mismatch, NotConstant, OutOfRange, NotVariable, BadCount, TooLarge, NotBuilt, Memory as types_memory}
+use Rattle.tu_check.specs.declared.refusal.EffectError.{EffectError}
+use Rattle.tu_check.specs.declared.refusal.EffectError.TheVariants.{FunctionVar, FunctionWrites, FunctionTalks, UnlistedWrite, Memory as effects_memory}
+use Rattle.tu_check.specs.declared.refusal.AliasError.{AliasError}
+use Rattle.tu_check.specs.declared.refusal.AliasError.TheVariants.{SharedActual, ImportedActual, HiddenRoot, ChangedBound, Memory as overlap_memory}
+use Rattle.tu_check.specs.declared.refusal.Refusal.{Refusal}
+use Rattle.tu_check.specs.declared.refusal.Refusal.TheVariants.{Size, Lexical, Syntax, Scope, Types, Effects, Overlap}
 
 abbrev pub at_line : ℕ → List ℕ → List ℕ
 at_line line text = codes "line " ++ (decimal line ++ (codes ": " ++ text))

@@ -15,15 +15,14 @@ use rv_image::{Image, ImageError, reads_again};
 use rv_machine::Machine;
 use std::alloc::Global;
 use tu_agree::meaning_is_run;
-use tu_base::{Bytes, Words};
-use tu_check::{CheckError, check, one_answer};
+use tu_base::{Bytes, MOST_SOURCE_BYTES, Words};
+use tu_check::{CheckError, Refusal, check, one_answer};
 use tu_compile::compile;
 use tu_meaning::program_is_final;
 use tu_outside::{Cabinet, CabinetError, Console, Fetched};
-use tu_token::Refusal;
 
 // In bytes.
-const LARGEST_SOURCE: u64 = 1_048_576;
+const LARGEST_SOURCE: u64 = MOST_SOURCE_BYTES as u64;
 
 const LARGEST_IMAGE: u64 = 67_108_884;
 

@@ -10,6 +10,3 @@ mod top;
 
 pub use report::{Report, Status};
 pub use top::turing;
-
-#[cfg(test)]
-mod tests;

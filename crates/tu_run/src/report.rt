@@ -1,7 +1,7 @@
 use rv_image::{Image, ImageError};
 use rv_isa::FaultKind;
 use tu_base::{Kind, Line};
-use tu_token::Refusal;
+use tu_check::Refusal;
 
 /// How a command ended.
 #[derive(Clone, Copy, Debug, PartialEq, Eq)]

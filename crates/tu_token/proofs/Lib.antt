@@ -1,6 +1,9 @@
+-- for the crates above
 pub mod Unique
-mod Rows
 pub mod Decides
-pub mod Reprinted
 pub mod Programs
 pub mod Numbers
+-- of this crate alone
+mod Rows
+mod Reprinted
+mod Entries

@@ -2,7 +2,7 @@
 use Rattle.std.specs.Prelude.{◌≡◌, List, ◌++◌, refl}
 use Rattle.std.proofs.Common.{ap, sym, ◌∙◌, arith, append_assoc, append-nil}
 use Rattle.grammar.specs.Description.{Lexeme, Description, token, empty, sequence, choice, repetition, rule, span, Derivation, d-token, d-empty, d-sequence, d-left, d-right, d-none, d-more, d-rule, d-span, d-short, print}
-use Rattle.tu_token.specs.Rules.{Rule, r-var, r-index, r-range, r-statement, r-pre, r-givens, r-post, r-invariant, r-ending, r-elsif, r-arm, r-any, maybe, many, body}
+use Rattle.tu_token.specs.Rules.{Rule, r-var, r-index, r-range, r-statement, r-pre, r-givens, r-post, r-handler, r-invariant, r-ending, r-elsif, r-arm, r-any, maybe, many, body}
 use Rattle.tu_token.specs.Printed.{IsSpelled, printed, labelled, unlabelled, SpellsTheSame}
 
 joined : {a b c d : List Lexeme} → a ≡ b → c ≡ d → a ++ c ≡ b ++ d
@@ -30,6 +30,7 @@ abbrev part : Rule → Description Rule
 part r-pre = body r-pre
 part r-givens = body r-givens
 part r-post = body r-post
+part r-handler = body r-handler
 part r-invariant = body r-invariant
 part r-ending = body r-ending
 part r-elsif = body r-elsif
@@ -50,6 +51,7 @@ part_in : (n : Rule) (x : Derivation printed (rule n)) → IsSpelled printed (pa
 part_in r-pre (d-rule x) = given x
 part_in r-givens (d-rule x) = given x
 part_in r-post (d-rule x) = given x
+part_in r-handler (d-rule x) = given x
 part_in r-invariant (d-rule x) = given x
 part_in r-ending (d-rule x) = given x
 part_in r-elsif (d-rule x) = given x
@@ -60,6 +62,7 @@ part_out : (n : Rule) (x : Derivation body (part n)) → IsSpelled body (rule n)
 part_out r-pre x = given (d-rule x)
 part_out r-givens x = given (d-rule x)
 part_out r-post x = given (d-rule x)
+part_out r-handler x = given (d-rule x)
 part_out r-invariant x = given (d-rule x)
 part_out r-ending x = given (d-rule x)
 part_out r-elsif x = given (d-rule x)

@@ -5,7 +5,7 @@ use Rattle.grammar.specs.Placed.{Place}
 use Rattle.tu_token.specs.TokenList.{TokenList}
 use Rattle.tu_token.specs.declared.token.Token.{Token}
 use Rattle.tu_token.specs.declared.class.Class.{Class}
-use Rattle.tu_token.specs.declared.class.Class.TheVariants.{Name, Number, Text, SignAssign, SignImplies, SignLessOrEqual, SignGreaterOrEqual, SignRange, SignPower, SignNotEqual, SignPlus, SignMinus, SignStar, SignLess, SignGreater, SignEqual, SignLeftBracket, SignRightBracket, SignComma, SignColon, SignSemicolon, SignDot, WordAll, WordAnd, WordArray, WordAssert, WordBegin, WordBind, WordBody, WordBoolean, WordCase, WordClose, WordCollection, WordConst, WordDecreasing, WordDiv, WordElse, WordElsif, WordEnd, WordEnum, WordExit, WordExport, WordFalse, WordFor, WordForward, WordFree, WordFunction, WordGet, WordIf, WordImport, WordIn, WordInit, WordInt, WordInvariant, WordLabel, WordLoop, WordMod, WordModule, WordNew, WordNil, WordNot, WordOf, WordOpaque, WordOpen, WordOr, WordPointer, WordPost, WordPre, WordProcedure, WordPut, WordRecord, WordResult, WordReturn, WordSet, WordString, WordTag, WordThen, WordTo, WordTrue, WordType, WordUnion, WordVar, WordWhen}
+use Rattle.tu_token.specs.declared.class.Class.TheVariants.{Name, Number, Text, SignAssign, SignImplies, SignLessOrEqual, SignGreaterOrEqual, SignRange, SignPower, SignNotEqual, SignPlus, SignMinus, SignStar, SignLess, SignGreater, SignEqual, SignLeftBracket, SignRightBracket, SignComma, SignColon, SignSemicolon, SignDot, WordAll, WordAnd, WordArray, WordAssert, WordBegin, WordBind, WordBody, WordBoolean, WordCase, WordClose, WordCollection, WordConst, WordDecreasing, WordDiv, WordElse, WordElsif, WordEnd, WordEnum, WordExit, WordExport, WordFalse, WordFor, WordForward, WordFree, WordFunction, WordGet, WordHandler, WordIf, WordImport, WordIn, WordInit, WordInt, WordInvariant, WordLabel, WordLoop, WordMod, WordModule, WordNew, WordNil, WordNot, WordOf, WordOpaque, WordOpen, WordOr, WordPointer, WordPost, WordPre, WordProcedure, WordPut, WordQuit, WordRecord, WordResult, WordReturn, WordSet, WordString, WordTag, WordThen, WordTo, WordTrue, WordType, WordUnion, WordVar, WordWhen}
 
 abbrev pub number : Class → ℕ
 number Name = 0
@@ -56,41 +56,43 @@ number WordForward = 44
 number WordFree = 45
 number WordFunction = 46
 number WordGet = 47
-number WordIf = 48
-number WordImport = 49
-number WordIn = 50
-number WordInit = 51
-number WordInt = 52
-number WordInvariant = 53
-number WordLabel = 54
-number WordLoop = 55
-number WordMod = 56
-number WordModule = 57
-number WordNew = 58
-number WordNil = 59
-number WordNot = 60
-number WordOf = 61
-number WordOpaque = 62
-number WordOpen = 63
-number WordOr = 64
-number WordPointer = 65
-number WordPost = 66
-number WordPre = 67
-number WordProcedure = 68
-number WordPut = 69
-number WordRecord = 70
-number WordResult = 71
-number WordReturn = 72
-number WordSet = 73
-number WordString = 74
-number WordTag = 75
-number WordThen = 76
-number WordTo = 77
-number WordTrue = 78
-number WordType = 79
-number WordUnion = 80
-number WordVar = 81
-number WordWhen = 82
+number WordHandler = 48
+number WordIf = 49
+number WordImport = 50
+number WordIn = 51
+number WordInit = 52
+number WordInt = 53
+number WordInvariant = 54
+number WordLabel = 55
+number WordLoop = 56
+number WordMod = 57
+number WordModule = 58
+number WordNew = 59
+number WordNil = 60
+number WordNot = 61
+number WordOf = 62
+number WordOpaque = 63
+number WordOpen = 64
+number WordOr = 65
+number WordPointer = 66
+number WordPost = 67
+number WordPre = 68
+number WordProcedure = 69
+number WordPut = 70
+number WordQuit = 71
+number WordRecord = 72
+number WordResult = 73
+number WordReturn = 74
+number WordSet = 75
+number WordString = 76
+number WordTag = 77
+number WordThen = 78
+number WordTo = 79
+number WordTrue = 80
+number WordType = 81
+number WordUnion = 82
+number WordVar = 83
+number WordWhen = 84
 
 -- names, numbers and texts keep their text; of the others the class says all
 abbrev pub keeps_text : ℕ → Bool

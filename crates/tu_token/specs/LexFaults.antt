@@ -2,6 +2,7 @@
 use Rattle.std.specs.Prelude.{◌≡◌, ℕ, ◌+◌, ◌-◌, ◌*◌, ◌<◌, ◌≤◌, ◌⊎◌, Bool, true, false, not, ◌==◌, ◌&&◌, ◌||◌, nat_lt, List, [], ◌∷◌, length, take, drop, Option, Some, None, is_none, is_some}
 use Rattle.std.specs.List.{prefix_len}
 use Rattle.std.specs.Char.{is_ascii_digit}
+use Rattle.tu_base.specs.declared.limits.TheConstants.{MOST_INT, MOST_NAME_BYTES, MOST_OPEN, MOST_TEXT_BYTES, MOST_TOKENS}
 use Rattle.tu_token.specs.declared.class.Class.{Class}
 use Rattle.tu_token.specs.declared.fault.LexError.{LexError}
 use Rattle.tu_token.specs.declared.fault.LexError.TheVariants.{BadByte as bad_byte, BadNumber as bad_number, OpenText as open_text, LongText as long_text, OpenComment as open_comment, LongName as long_name, TooMany as too_many, TooDeep as too_deep}
@@ -87,12 +88,12 @@ goes_on [] = false
 goes_on (b ∷ rest) = is_name_byte b || ((b == 46) && begins is_ascii_digit rest)
 
 abbrev pub is_bad_number : List ℕ → Bool
-is_bad_number bytes = goes_on (drop (prefix_len is_ascii_digit bytes) bytes) || nat_lt 2147483647 (value_after 0 (digits_of bytes))
+is_bad_number bytes = goes_on (drop (prefix_len is_ascii_digit bytes) bytes) || nat_lt MOST_INT (value_after 0 (digits_of bytes))
 
--- a text has more than 255 bytes, where its closing quote is byte n behind the opening one
+-- a text has more bytes than it may, where its closing quote is byte n behind the opening one
 abbrev pub is_long_text : Option ℕ → List ℕ → Bool
 is_long_text None body = false
-is_long_text (Some n) body = nat_lt 255 (length (contents false (take (n - 1) body)))
+is_long_text (Some n) body = nat_lt MOST_TEXT_BYTES (length (contents false (take (n - 1) body)))
 
 abbrev pub bad_in_text : Option ℕ → List ℕ → Option ℕ
 bad_in_text None body = None
@@ -109,16 +110,16 @@ is_malformed BadNumber Digit b rest = is_bad_number (b ∷ rest)
 is_malformed OpenText Quote b rest = is_none (close_of text_scan false rest)
 is_malformed LongText Quote b rest = is_long_text (close_of text_scan false rest) rest
 is_malformed OpenComment Slash b rest = is_open_comment rest
-is_malformed LongName Letter b rest = nat_lt 50 (prefix_len is_name_byte (b ∷ rest))
+is_malformed LongName Letter b rest = nat_lt MOST_NAME_BYTES (prefix_len is_name_byte (b ∷ rest))
 is_malformed kind first b rest = false
 
--- the lexeme in front brings the open constructs to 33
+-- the lexeme in front opens one construct more than may be open
 pub record Deepens (nest : Nest) (source : List ℕ) : Type 0 where
   pub text : List ℕ
   pub class : Class
   pub piece : IsPiece text source
   pub shape : shape_of text ≡ Some (Lexeme class)
-  pub deep : 32 < depth (nest_after nest class)
+  pub deep : MOST_OPEN < depth (nest_after nest class)
 
 -- A fault of a kind at an offset from the place where these bytes stand.
 -- Only a byte or an escape that may not stand in a text has an offset that is not 0.
@@ -130,7 +131,7 @@ IsFault reading OpenText offset (b ∷ rest) = (offset ≡ 0) × (is_malformed O
 IsFault reading LongText offset (b ∷ rest) = (offset ≡ 0) × (is_malformed LongText (first_of b) b rest ≡ true)
 IsFault reading OpenComment offset (b ∷ rest) = (offset ≡ 0) × (is_malformed OpenComment (first_of b) b rest ≡ true)
 IsFault reading LongName offset (b ∷ rest) = (offset ≡ 0) × (is_malformed LongName (first_of b) b rest ≡ true)
-IsFault reading TooMany offset (b ∷ rest) = (offset ≡ 0) × (reading.count ≡ 65536) × (begins_token (first_of b) b ≡ true)
+IsFault reading TooMany offset (b ∷ rest) = (offset ≡ 0) × (reading.count ≡ MOST_TOKENS) × (begins_token (first_of b) b ≡ true)
 IsFault reading TooDeep offset (b ∷ rest) = (offset ≡ 0) × Deepens reading.nest (b ∷ rest)
 
 abbrev pub at_start : Reading

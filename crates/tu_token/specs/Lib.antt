@@ -9,3 +9,4 @@ pub mod Rules
 pub mod Table
 pub mod Syntax
 pub mod Printed
+pub mod Spellings

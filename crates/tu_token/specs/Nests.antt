@@ -1,9 +1,9 @@
 -- Brackets and constructs that are open.
 use Rattle.std.specs.Prelude.{ℕ, Bool, true, false, List, [], ◌∷◌, length, if◌then◌else◌}
 use Rattle.tu_token.specs.declared.class.Class.{Class}
-use Rattle.tu_token.specs.declared.class.Class.TheVariants.{SignLeftBracket, SignRightBracket, WordIf, WordLoop, WordFor, WordCase, WordRecord, WordUnion, WordBegin, WordModule, WordProcedure, WordFunction, WordEnd, WordForward}
+use Rattle.tu_token.specs.declared.class.Class.TheVariants.{SignLeftBracket, SignRightBracket, WordIf, WordLoop, WordFor, WordCase, WordRecord, WordUnion, WordBegin, WordModule, WordProcedure, WordFunction, WordHandler, WordEnd, WordForward}
 use Rattle.tu_token.specs.declared.nest.Construct.{Construct}
-use Rattle.tu_token.specs.declared.nest.Construct.TheVariants.{Bracket, If, Loop, For, Case, Record, Union, Begin, Module, Subprogram}
+use Rattle.tu_token.specs.declared.nest.Construct.TheVariants.{Bracket, If, Loop, For, Case, Record, Union, Begin, Module, Handler, Subprogram}
 use Rattle.tu_token.specs.declared.nest.Role.{Role}
 use Rattle.tu_token.specs.declared.nest.Role.TheVariants.{Opens, Closes, Ends, Forwards, Plain}
 use Rattle.tu_token.specs.declared.nest.Before.{Before}
@@ -19,6 +19,7 @@ role_of WordRecord = Opens Record
 role_of WordUnion = Opens Union
 role_of WordBegin = Opens Begin
 role_of WordModule = Opens Module
+role_of WordHandler = Opens Handler
 role_of WordProcedure = Opens Subprogram
 role_of WordFunction = Opens Subprogram
 role_of SignRightBracket = Closes
@@ -46,6 +47,7 @@ is_opened (End For) For = false
 is_opened (End Case) Case = false
 is_opened (End Record) Record = false
 is_opened (End Union) Union = false
+is_opened (End Handler) Handler = false
 is_opened before construct = true
 
 abbrev pub opened : Nest → Construct → Nest

@@ -2,7 +2,7 @@
 -- them as a rule of its own, so that the part has a place.
 use Rattle.std.specs.Prelude.{◌≡◌, ◌↔◌, List}
 use Rattle.grammar.specs.Description.{Lexeme, Description, rule, Derivation, print}
-use Rattle.tu_token.specs.declared.class.Class.TheVariants.{Name, SignAssign, SignRange, SignStar, SignLeftBracket, SignRightBracket, SignComma, SignColon, SignSemicolon, WordAssert, WordBegin, WordBoolean, WordCase, WordClose, WordCollection, WordDecreasing, WordElse, WordElsif, WordEnd, WordEnum, WordExit, WordFor, WordFree, WordGet, WordIf, WordInit, WordInt, WordInvariant, WordLabel, WordLoop, WordModule, WordNew, WordOf, WordOpen, WordPointer, WordPost, WordPre, WordPut, WordRecord, WordResult, WordReturn, WordSet, WordString, WordTag, WordThen, WordTo, WordUnion, WordVar, WordWhen}
+use Rattle.tu_token.specs.declared.class.Class.TheVariants.{Name, SignAssign, SignRange, SignStar, SignLeftBracket, SignRightBracket, SignComma, SignColon, SignSemicolon, WordAssert, WordBegin, WordBoolean, WordCase, WordClose, WordCollection, WordDecreasing, WordElse, WordElsif, WordEnd, WordEnum, WordExit, WordFor, WordFree, WordGet, WordHandler, WordIf, WordInit, WordInt, WordInvariant, WordLabel, WordLoop, WordModule, WordNew, WordOf, WordOpen, WordPointer, WordPost, WordPre, WordPut, WordQuit, WordRecord, WordResult, WordReturn, WordSet, WordString, WordTag, WordThen, WordTo, WordUnion, WordVar, WordWhen}
 use Rattle.tu_token.specs.Rules.{Rule, r-expr, r-block, r-var, r-names, r-spec, r-start, r-index, r-name, r-base, r-range, r-field, r-variant, r-rest, r-given, r-module, r-import, r-export, r-const, r-type, r-subprogram, r-statement, r-path, r-shown, r-taken, ◌⨟◌, ◌∣◌, many, maybe, t, listed, body}
 
 -- an arm of a `case`, and its last arm without labels
@@ -34,7 +34,7 @@ printed r-range =
     rule r-expr ⨟ t SignRange ⨟ rule r-expr
     ∣ rule r-name
 printed r-rest =
-    maybe (t WordPre ⨟ rule r-expr) ⨟ maybe (t WordInit ⨟ listed r-given) ⨟ maybe (t WordPost ⨟ rule r-expr) ⨟ rule r-block ⨟ t WordEnd ⨟ t Name
+    maybe (t WordPre ⨟ rule r-expr) ⨟ maybe (t WordInit ⨟ listed r-given) ⨟ maybe (t WordPost ⨟ rule r-expr) ⨟ maybe (t WordHandler ⨟ t SignLeftBracket ⨟ t Name ⨟ t SignRightBracket ⨟ rule r-block ⨟ t WordEnd ⨟ t WordHandler) ⨟ rule r-block ⨟ t WordEnd ⨟ t Name
 printed r-module =
     t WordModule ⨟ t Name ⨟ maybe (rule r-import) ⨟ maybe (rule r-export) ⨟ many ((rule r-const ∣ rule r-var ∣ rule r-type ∣ rule r-subprogram ∣ rule r-statement ∣ t WordInvariant ⨟ rule r-expr) ⨟ maybe (t SignSemicolon)) ⨟ t WordEnd ⨟ t Name
 printed r-statement =
@@ -56,6 +56,7 @@ printed r-statement =
     ∣ t WordGet ⨟ maybe (t SignColon ⨟ rule r-expr ⨟ t SignComma) ⨟ listed r-taken
     ∣ t WordOpen ⨟ t SignColon ⨟ rule r-path ⨟ t SignComma ⨟ rule r-expr ⨟ t SignComma ⨟ (t WordPut ∣ t WordGet)
     ∣ t WordClose ⨟ t SignColon ⨟ rule r-expr
+    ∣ t WordQuit ⨟ maybe (t SignColon ⨟ rule r-expr)
 printed n = body n
 
 -- some derivation prints the list

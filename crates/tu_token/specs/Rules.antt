@@ -1,10 +1,10 @@
 -- The grammar of the language: its rules, and what each of them is.
 use Rattle.grammar.specs.Description.{Description, token, empty, sequence, choice, repetition, rule, span}
 use Rattle.tu_token.specs.declared.class.Class.{Class}
-use Rattle.tu_token.specs.declared.class.Class.TheVariants.{Name, Number, Text, SignAssign, SignImplies, SignLessOrEqual, SignGreaterOrEqual, SignRange, SignPower, SignNotEqual, SignPlus, SignMinus, SignStar, SignLess, SignGreater, SignEqual, SignLeftBracket, SignRightBracket, SignComma, SignColon, SignSemicolon, SignDot, WordAll, WordAnd, WordArray, WordAssert, WordBegin, WordBind, WordBody, WordBoolean, WordCase, WordClose, WordCollection, WordConst, WordDecreasing, WordDiv, WordElse, WordElsif, WordEnd, WordEnum, WordExit, WordExport, WordFalse, WordFor, WordForward, WordFree, WordFunction, WordGet, WordIf, WordImport, WordIn, WordInit, WordInt, WordInvariant, WordLabel, WordLoop, WordMod, WordModule, WordNew, WordNil, WordNot, WordOf, WordOpaque, WordOpen, WordOr, WordPointer, WordPost, WordPre, WordProcedure, WordPut, WordRecord, WordResult, WordReturn, WordSet, WordString, WordTag, WordThen, WordTo, WordTrue, WordType, WordUnion, WordVar, WordWhen}
+use Rattle.tu_token.specs.declared.class.Class.TheVariants.{Name, Number, Text, SignAssign, SignImplies, SignLessOrEqual, SignGreaterOrEqual, SignRange, SignPower, SignNotEqual, SignPlus, SignMinus, SignStar, SignLess, SignGreater, SignEqual, SignLeftBracket, SignRightBracket, SignComma, SignColon, SignSemicolon, SignDot, WordAll, WordAnd, WordArray, WordAssert, WordBegin, WordBind, WordBody, WordBoolean, WordCase, WordClose, WordCollection, WordConst, WordDecreasing, WordDiv, WordElse, WordElsif, WordEnd, WordEnum, WordExit, WordExport, WordFalse, WordFor, WordForward, WordFree, WordFunction, WordGet, WordHandler, WordIf, WordImport, WordIn, WordInit, WordInt, WordInvariant, WordLabel, WordLoop, WordMod, WordModule, WordNew, WordNil, WordNot, WordOf, WordOpaque, WordOpen, WordOr, WordPointer, WordPost, WordPre, WordProcedure, WordPut, WordQuit, WordRecord, WordResult, WordReturn, WordSet, WordString, WordTag, WordThen, WordTo, WordTrue, WordType, WordUnion, WordVar, WordWhen}
 use Rattle.tu_token.specs.ClassNumbers.{number}
 
--- the productions, and below them parts that have a place of their own: clauses, ends, the arms of `if` and `case`, and the
+-- the productions, and below them parts that have a place of their own: clauses, handlers, ends, the arms of `if` and `case`, and the
 -- bounds and sizes that are left open
 pub data Rule : Type 0 where
   r-program : Rule
@@ -55,6 +55,7 @@ pub data Rule : Type 0 where
   r-pre : Rule
   r-givens : Rule
   r-post : Rule
+  r-handler : Rule
   r-invariant : Rule
   r-ending : Rule
   r-elsif : Rule
@@ -120,7 +121,7 @@ body r-head =
     ∣ t WordFunction ⨟ t Name ⨟ maybe (rule r-formals) ⨟ maybe (t Name) ⨟ t SignColon ⨟ rule r-spec
 body r-formals = t SignLeftBracket ⨟ maybe (listed r-formal) ⨟ t SignRightBracket
 body r-formal = maybe (t WordVar) ⨟ rule r-names ⨟ t SignColon ⨟ rule r-spec
-body r-rest = maybe (rule r-pre) ⨟ maybe (rule r-givens) ⨟ maybe (rule r-post) ⨟ rule r-block ⨟ rule r-ending
+body r-rest = maybe (rule r-pre) ⨟ maybe (rule r-givens) ⨟ maybe (rule r-post) ⨟ maybe (rule r-handler) ⨟ rule r-block ⨟ rule r-ending
 body r-given = t Name ⨟ t SignAssign ⨟ rule r-expr
 body r-import = t WordImport ⨟ (t SignLeftBracket ⨟ maybe (listed r-imp) ⨟ t SignRightBracket ∣ listed r-imp)
 body r-imp = maybe (t WordVar) ⨟ t Name
@@ -146,6 +147,7 @@ body r-statement =
     ∣ t WordGet ⨟ maybe (t SignColon ⨟ rule r-expr ⨟ t SignComma) ⨟ listed r-taken
     ∣ t WordOpen ⨟ t SignColon ⨟ rule r-path ⨟ t SignComma ⨟ rule r-expr ⨟ t SignComma ⨟ (t WordPut ∣ t WordGet)
     ∣ t WordClose ⨟ t SignColon ⨟ rule r-expr
+    ∣ t WordQuit ⨟ maybe (t SignColon ⨟ rule r-expr)
 body r-shown = rule r-expr ⨟ maybe (t SignColon ⨟ rule r-expr)
 body r-taken = rule r-path ⨟ maybe (t SignColon ⨟ (t SignStar ∣ rule r-expr))
 body r-expr = rule r-or ⨟ many (t SignImplies ⨟ rule r-or)
@@ -180,6 +182,7 @@ body r-place = rule r-expr ∣ t SignStar ⨟ maybe (t SignMinus ⨟ rule r-term
 body r-pre = t WordPre ⨟ rule r-expr
 body r-givens = t WordInit ⨟ listed r-given
 body r-post = t WordPost ⨟ rule r-expr
+body r-handler = t WordHandler ⨟ t SignLeftBracket ⨟ t Name ⨟ t SignRightBracket ⨟ rule r-block ⨟ t WordEnd ⨟ t WordHandler
 body r-invariant = t WordInvariant ⨟ rule r-expr
 body r-ending = t WordEnd ⨟ t Name
 body r-elsif = t WordElsif ⨟ rule r-expr ⨟ t WordThen ⨟ rule r-block

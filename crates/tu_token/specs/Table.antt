@@ -4,12 +4,12 @@ use Rattle.grammar.specs.Description.{rule, Derivation, d-token, d-empty, d-sequ
 use Rattle.grammar.specs.Grammar.{Grammar, Marking, numbered, placed}
 use Rattle.grammar.specs.Tree.{no_mark, Node, n-token, n-empty, n-sequence, n-left, n-right, n-none, n-rule, n-short}
 use Rattle.tu_token.specs.declared.class.Class.{Class}
-use Rattle.tu_token.specs.declared.class.Class.TheVariants.{Name, Number, Text, SignAssign, SignImplies, SignLessOrEqual, SignGreaterOrEqual, SignRange, SignPower, SignNotEqual, SignPlus, SignMinus, SignStar, SignLess, SignGreater, SignEqual, SignLeftBracket, SignRightBracket, SignComma, SignColon, SignSemicolon, WordAll, WordAnd, WordArray, WordAssert, WordBegin, WordBind, WordBody, WordBoolean, WordCase, WordClose, WordConst, WordDiv, WordElse, WordElsif, WordEnd, WordEnum, WordExit, WordExport, WordFalse, WordFor, WordForward, WordFree, WordFunction, WordGet, WordIf, WordImport, WordIn, WordInit, WordInt, WordInvariant, WordLabel, WordLoop, WordMod, WordModule, WordNew, WordNil, WordNot, WordOf, WordOpaque, WordOpen, WordOr, WordPointer, WordPost, WordPre, WordProcedure, WordPut, WordRecord, WordResult, WordReturn, WordSet, WordString, WordTag, WordThen, WordTrue, WordType, WordUnion, WordVar}
+use Rattle.tu_token.specs.declared.class.Class.TheVariants.{Name, Number, Text, SignAssign, SignImplies, SignLessOrEqual, SignGreaterOrEqual, SignRange, SignPower, SignNotEqual, SignPlus, SignMinus, SignStar, SignLess, SignGreater, SignEqual, SignLeftBracket, SignRightBracket, SignComma, SignColon, SignSemicolon, WordAll, WordAnd, WordArray, WordAssert, WordBegin, WordBind, WordBody, WordBoolean, WordCase, WordClose, WordConst, WordDiv, WordElse, WordElsif, WordEnd, WordEnum, WordExit, WordExport, WordFalse, WordFor, WordForward, WordFree, WordFunction, WordGet, WordHandler, WordIf, WordImport, WordIn, WordInit, WordInt, WordInvariant, WordLabel, WordLoop, WordMod, WordModule, WordNew, WordNil, WordNot, WordOf, WordOpaque, WordOpen, WordOr, WordPointer, WordPost, WordPre, WordProcedure, WordPut, WordQuit, WordRecord, WordResult, WordReturn, WordSet, WordString, WordTag, WordThen, WordTrue, WordType, WordUnion, WordVar}
 use Rattle.tu_token.specs.ClassNumbers.{number, keeps_text}
-use Rattle.tu_token.specs.Rules.{Rule, r-program, r-item, r-block, r-const, r-var, r-type, r-names, r-start, r-bind, r-binding, r-spec, r-index, r-base, r-range, r-name, r-field, r-variant, r-subprogram, r-head, r-formals, r-formal, r-rest, r-given, r-import, r-imp, r-export, r-exp, r-module, r-statement, r-shown, r-taken, r-expr, r-or, r-and, r-not, r-compare, r-relation, r-sum, r-term, r-prefix, r-power, r-primary, r-path, r-arg, r-place, r-pre, r-givens, r-post, r-invariant, r-ending, r-elsif, r-arm, r-any, body}
+use Rattle.tu_token.specs.Rules.{Rule, r-program, r-item, r-block, r-const, r-var, r-type, r-names, r-start, r-bind, r-binding, r-spec, r-index, r-base, r-range, r-name, r-field, r-variant, r-subprogram, r-head, r-formals, r-formal, r-rest, r-given, r-import, r-imp, r-export, r-exp, r-module, r-statement, r-shown, r-taken, r-expr, r-or, r-and, r-not, r-compare, r-relation, r-sum, r-term, r-prefix, r-power, r-primary, r-path, r-arg, r-place, r-pre, r-givens, r-post, r-handler, r-invariant, r-ending, r-elsif, r-arm, r-any, body}
 
 abbrev pub statement_starts : List Class
-statement_starts = Name ∷ WordIf ∷ WordLoop ∷ WordFor ∷ WordCase ∷ WordBegin ∷ WordExit ∷ WordReturn ∷ WordResult ∷ WordAssert ∷ WordNew ∷ WordFree ∷ WordTag ∷ WordPut ∷ WordGet ∷ WordOpen ∷ WordClose ∷ []
+statement_starts = Name ∷ WordIf ∷ WordLoop ∷ WordFor ∷ WordCase ∷ WordBegin ∷ WordExit ∷ WordReturn ∷ WordResult ∷ WordAssert ∷ WordNew ∷ WordFree ∷ WordTag ∷ WordPut ∷ WordGet ∷ WordOpen ∷ WordClose ∷ WordQuit ∷ []
 
 abbrev pub block_starts : List Class
 block_starts = WordConst ∷ WordVar ∷ WordType ∷ WordBind ∷ statement_starts
@@ -40,7 +40,7 @@ abbrev pub behind_part : List Class
 behind_part = SignSemicolon ∷ WordBind ∷ WordInvariant ∷ (behind_block ++ item_starts)
 
 abbrev pub behind_clause : List Class
-behind_clause = WordInit ∷ WordPost ∷ behind_part
+behind_clause = WordInit ∷ WordPost ∷ WordHandler ∷ behind_part
 
 abbrev pub behind_head : List Class
 behind_head = WordImport ∷ WordPre ∷ behind_clause
@@ -92,7 +92,7 @@ starts_of r-subprogram = WordForward ∷ WordBody ∷ WordProcedure ∷ WordFunc
 starts_of r-head = WordProcedure ∷ WordFunction ∷ []
 starts_of r-formals = SignLeftBracket ∷ []
 starts_of r-formal = WordVar ∷ Name ∷ []
-starts_of r-rest = WordPre ∷ WordInit ∷ WordPost ∷ WordEnd ∷ block_starts
+starts_of r-rest = WordPre ∷ WordInit ∷ WordPost ∷ WordHandler ∷ WordEnd ∷ block_starts
 starts_of r-given = Name ∷ []
 starts_of r-import = WordImport ∷ []
 starts_of r-imp = WordVar ∷ Name ∷ []
@@ -119,6 +119,7 @@ starts_of r-place = SignStar ∷ expr_starts
 starts_of r-pre = WordPre ∷ []
 starts_of r-givens = WordInit ∷ []
 starts_of r-post = WordPost ∷ []
+starts_of r-handler = WordHandler ∷ []
 starts_of r-invariant = WordInvariant ∷ []
 starts_of r-ending = WordEnd ∷ []
 starts_of r-elsif = WordElsif ∷ []
@@ -175,6 +176,7 @@ behind r-place = SignRange ∷ SignComma ∷ SignRightBracket ∷ []
 behind r-pre = behind_clause
 behind r-givens = behind_clause
 behind r-post = behind_clause
+behind r-handler = behind_clause
 behind r-invariant = behind_part
 behind r-ending = behind_part
 behind r-elsif = WordElsif ∷ WordElse ∷ WordEnd ∷ []
@@ -223,6 +225,7 @@ abbrev pub marking : Rule → Marking
 marking r-pre = placed
 marking r-givens = placed
 marking r-post = placed
+marking r-handler = placed
 marking r-invariant = placed
 marking r-ending = placed
 marking r-elsif = placed
@@ -372,7 +375,7 @@ abbrev pub some-ending : Node body (body r-ending)
 some-ending = n-sequence n-token n-token
 
 abbrev pub some-rest : Node body (body r-rest)
-some-rest = n-sequence (n-right n-empty) (n-sequence (n-right n-empty) (n-sequence (n-right n-empty) (n-sequence (made some-block) (made some-ending))))
+some-rest = n-sequence (n-right n-empty) (n-sequence (n-right n-empty) (n-sequence (n-right n-empty) (n-sequence (n-right n-empty) (n-sequence (made some-block) (made some-ending)))))
 
 abbrev pub some-given : Node body (body r-given)
 some-given = n-sequence n-token (n-sequence n-token (made some-expr))
@@ -403,6 +406,9 @@ some-pre = n-sequence n-token (made some-expr)
 
 abbrev pub some-post : Node body (body r-post)
 some-post = n-sequence n-token (made some-expr)
+
+abbrev pub some-handler : Node body (body r-handler)
+some-handler = n-sequence n-token (n-sequence n-token (n-sequence n-token (n-sequence n-token (n-sequence (made some-block) (n-sequence n-token n-token)))))
 
 abbrev pub some-invariant : Node body (body r-invariant)
 some-invariant = n-sequence n-token (made some-expr)
@@ -469,6 +475,7 @@ some r-place = some-place
 some r-pre = some-pre
 some r-givens = some-givens
 some r-post = some-post
+some r-handler = some-handler
 some r-invariant = some-invariant
 some r-ending = some-ending
 some r-elsif = some-elsif

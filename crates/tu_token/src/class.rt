@@ -94,6 +94,8 @@ pub enum Class {
     WordFunction,
     /// `get`
     WordGet,
+    /// `handler`
+    WordHandler,
     /// `if`
     WordIf,
     /// `import`
@@ -138,6 +140,8 @@ pub enum Class {
     WordProcedure,
     /// `put`
     WordPut,
+    /// `quit`
+    WordQuit,
     /// `record`
     WordRecord,
     /// `result`

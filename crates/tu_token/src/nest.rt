@@ -10,6 +10,7 @@ pub enum Construct {
     Union,
     Begin,
     Module,
+    Handler,
     Subprogram,
 }
 

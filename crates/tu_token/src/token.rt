@@ -1,4 +1,5 @@
 ghost use Rattle.std.specs.Prelude.{◌≡◌, ◌<◌, ◌≤◌, ◌↔◌, [], ◌∷◌, ◌++◌, Some, IsTrue, OnOk, OnErr, length};
+ghost use Rattle.tu_base.specs.declared.limits.TheConstants.{MOST_TOKENS};
 ghost use Rattle.tu_token.specs.TokenList.{text_at};
 
 use crate::Class;
@@ -7,7 +8,7 @@ use std::marker::Model;
 use tu_base::{Bytes, Line, Memory};
 
 /// A lexeme of a source.
-#[derive(Debug, Drop)]
+#[derive(Drop)]
 pub struct Token {
     /// What it is.
     pub class: Class,
@@ -22,7 +23,7 @@ pub struct Token {
 }
 
 /// The tokens of a source, at most 65,536, and where the source ends.
-#[derive(Debug, Drop)]
+#[derive(Drop)]
 pub struct Tokens {
     items: Vec<Token>,
     end_start: u32,
@@ -31,13 +32,14 @@ pub struct Tokens {
 
 impl Model for Tokens {
     ghost use Rattle.std.specs.Prelude.{◌≤◌, length};
+    ghost use Rattle.tu_base.specs.declared.limits.TheConstants.{MOST_TOKENS};
     ghost use Rattle.tu_token.specs.TokenList.{TokenList};
 
     ghost Value = { TokenList };
 
     ghost view = { λ t. record { items = t.items.items; start = t.end_start; line = t.end_line } };
 
-    ghost invariant = { λ t. length t.items.items ≤ 65536 };
+    ghost invariant = { λ t. length t.items.items ≤ MOST_TOKENS };
 }
 
 impl Tokens {
@@ -54,7 +56,7 @@ impl Tokens {
 
     /// Appends a token.
     pub fn add(&mut self, token: Token) -> Result<(), Memory>
-        requires { length self.old.items < 65536 }
+        requires { length self.old.items < MOST_TOKENS }
         ensures added { OnOk result (self.new ≡ record self.old { items = self.old.items ++ token ∷ [] }) }
         ensures same { OnErr result (self.new ≡ self.old) }
     {
@@ -73,7 +75,7 @@ impl Tokens {
     /// How many tokens there are.
     pub fn len(&self) -> u32
         ensures number { result ≡ length self.now.items }
-        ensures few { result ≤ 65536 }
+        ensures few { result ≤ MOST_TOKENS }
     {
         self.items.len() as u32
     }

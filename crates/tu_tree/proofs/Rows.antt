@@ -3,7 +3,7 @@ use Rattle.std.specs.Prelude.{◌≡◌, ℕ, ◌+◌, max, true, false, List, [
 use Rattle.grammar.specs.Description.{Lexeme, Description, rule, print}
 use Rattle.grammar.specs.Tree.{no_mark, n-rule, erase}
 use Rattle.tu_token.specs.declared.class.Class.{Class}
-use Rattle.tu_token.specs.declared.class.Class.TheVariants.{Name, Number, SignAssign, SignRange, SignStar, SignLeftBracket, SignRightBracket, SignComma, SignColon, SignSemicolon, SignDot, WordArray, WordAssert, WordBegin, WordBind, WordBody, WordBoolean, WordCase, WordClose, WordCollection, WordConst, WordDecreasing, WordElse, WordElsif, WordEnd, WordEnum, WordExit, WordExport, WordFor, WordForward, WordFree, WordFunction, WordGet, WordIf, WordImport, WordInit, WordInt, WordInvariant, WordLabel, WordLoop, WordModule, WordNew, WordOf, WordOpaque, WordOpen, WordPointer, WordPost, WordPre, WordProcedure, WordPut, WordRecord, WordResult, WordReturn, WordSet, WordString, WordTag, WordThen, WordTo, WordType, WordUnion, WordVar, WordWhen}
+use Rattle.tu_token.specs.declared.class.Class.TheVariants.{Name, Number, SignAssign, SignRange, SignStar, SignLeftBracket, SignRightBracket, SignComma, SignColon, SignSemicolon, SignDot, WordArray, WordAssert, WordBegin, WordBind, WordBody, WordBoolean, WordCase, WordClose, WordCollection, WordConst, WordDecreasing, WordElse, WordElsif, WordEnd, WordEnum, WordExit, WordExport, WordFor, WordForward, WordFree, WordFunction, WordGet, WordHandler, WordIf, WordImport, WordInit, WordInt, WordInvariant, WordLabel, WordLoop, WordModule, WordNew, WordOf, WordOpaque, WordOpen, WordPointer, WordPost, WordPre, WordProcedure, WordPut, WordQuit, WordRecord, WordResult, WordReturn, WordSet, WordString, WordTag, WordThen, WordTo, WordType, WordUnion, WordVar, WordWhen}
 use Rattle.tu_token.specs.ClassNumbers.{number}
 use Rattle.tu_expr.specs.declared.leaf.Leaf.{Leaf}
 use Rattle.tu_expr.specs.declared.leaf.Spot.{Spot}
@@ -31,13 +31,13 @@ use Rattle.tu_tree.specs.declared.program.ItemForm.TheVariants as item
 use Rattle.tu_tree.specs.declared.program.ModulePart.TheVariants as module_part
 use Rattle.tu_tree.specs.Syntax.{Rule, many, maybe, body, r-program, r-item, r-block, r-var, r-names, r-spec, r-base, r-range, r-name, r-field, r-variant, r-subprogram, r-rest, r-statement, r-expr, r-path, r-elsif, r-arm, Of, Part, text_of}
 use Rattle.tu_tree.specs.Parts.{separated}
-use Rattle.tu_tree.specs.Forms.{Present, Absent, More, NoMore, Behind, Listed, Path, Separated, Program, ItemConst, ItemVar, ItemType, ItemSubprogram, ItemModule, ItemStatement, Block, BlockConst, BlockVar, BlockType, BlockBind, BlockStatement, CollectionDeclaration, TypedDeclaration, StartedDeclaration, Spec, ArrayOf, IntType, BooleanType, StringType, RangeType, EnumType, SetType, PointerType, RecordType, UnionType, Field, Variant, ForwardSubprogram, WholeSubprogram, BodySubprogram, Rest, Module, ModuleConst, ModuleVar, ModuleType, ModuleSubprogram, ModuleStatement, ModuleInvariant, Assign, CallOf, If, Elsif, Loop, For, Case, Arm, LastArm, Begin, Simple, Exit, ExitWhen, Return, Result, Assert, New, Free, Tag, Put, Get, Open, Close}
+use Rattle.tu_tree.specs.Forms.{Present, Absent, More, NoMore, Behind, Listed, Path, Separated, Program, ItemConst, ItemVar, ItemType, ItemSubprogram, ItemModule, ItemStatement, Block, BlockConst, BlockVar, BlockType, BlockBind, BlockStatement, CollectionDeclaration, TypedDeclaration, StartedDeclaration, Spec, ArrayOf, IntType, BooleanType, StringType, RangeType, EnumType, SetType, PointerType, RecordType, UnionType, Field, Variant, ForwardSubprogram, WholeSubprogram, BodySubprogram, Rest, Module, ModuleConst, ModuleVar, ModuleType, ModuleSubprogram, ModuleStatement, ModuleInvariant, Assign, CallOf, If, Elsif, Loop, For, Case, Arm, LastArm, Begin, Simple, Exit, ExitWhen, Return, Result, Assert, New, Free, Tag, Put, Get, Open, Close, Quit, QuitWith}
 use Rattle.tu_tree.specs.TypeViews.{arrays, name_view, names_view, range_view, index_view, spec_view, base_view, field_view, variant_view}
 use Rattle.tu_tree.specs.DeclarationViews.{const_view, var_view, type_view, start_view, bind_view, binding_view}
 use Rattle.tu_tree.specs.ClauseViews.{pre_view, post_view, invariant_view, givens_view, given_view, ending_view}
 use Rattle.tu_tree.specs.StatementViews.{block_part, elses, simple, block_view, elsif_view, statement_view, shown_view, taken_view}
 use Rattle.tu_tree.specs.ImportViews.{import_view, import_item_view, export_view, export_item_view}
-use Rattle.tu_tree.specs.SubprogramViews.{subprogram_view, head_view, formals_view, formal_view, rest_view}
+use Rattle.tu_tree.specs.SubprogramViews.{subprogram_view, head_view, formals_view, formal_view, handler_view, rest_view}
 use Rattle.tu_tree.specs.ProgramViews.{module_part, item_view, program_view, module_view}
 
 abbrev word : Class → Lexeme
@@ -243,18 +243,25 @@ close_row : spells (item.Statement (statement_of (statement.Close (value 49))))
     ≡ word WordClose ∷ word SignColon ∷ number_at 49 ∷ []
 close_row = refl
 
+-- quit, and quit : 1
+quit_row : spells (item.Statement (statement_of statement.Quit)) ≡ word WordQuit ∷ []
+quit_row = refl
+
+quit_with_row : spells (item.Statement (statement_of (statement.QuitWith (value 49)))) ≡ word WordQuit ∷ word SignColon ∷ number_at 49 ∷ []
+quit_with_row = refl
+
 -- forward procedure p ( var a : int , b : int ) import ( var a , b )
 forward_row : spells (item.Subprogram (made (subprogram_view (subprogram.Forward (made (head_view (head.Procedure (letter 112) (Some (made (formals_view (made (formal_view true (names_of 97) (spec_of base.Int)) ∷ made (formal_view false (names_of 98) (spec_of base.Int)) ∷ []))))))) (Some (made (import_view (import.Bracketed (made (import_item_view true (letter 97)) ∷ made (import_item_view false (letter 98)) ∷ [])))))))))
     ≡ word WordForward ∷ word WordProcedure ∷ name_at 112 ∷ word SignLeftBracket ∷ word WordVar ∷ name_at 97 ∷ word SignColon ∷ word WordInt ∷ word SignComma ∷ name_at 98 ∷ word SignColon ∷ word WordInt ∷ word SignRightBracket ∷ word WordImport ∷ word SignLeftBracket ∷ word WordVar ∷ name_at 97 ∷ word SignComma ∷ name_at 98 ∷ word SignRightBracket ∷ []
 forward_row = refl
 
--- function f ( ) r : int import a , var b pre 1 init x := 2 , y := 3 post 4 result 5 ; end f
-function_row : spells (item.Subprogram (made (subprogram_view (subprogram.Whole (made (head_view (head.Function (letter 102) (Some (made (formals_view []))) (Some (letter 114)) (spec_of base.Int)))) (Some (made (import_view (import.Plain (made (import_item_view false (letter 97))) (made (import_item_view true (letter 98)) ∷ []))))) (made (rest_view (Some (made (pre_view (value 49)))) (Some (made (givens_view (made (given_view (letter 120) (value 50))) (made (given_view (letter 121) (value 51)) ∷ [])))) (Some (made (post_view (value 52)))) (block_of (statement.Result (value 53) ∷ [])) (made (ending_view (letter 102)))))))))
-    ≡ word WordFunction ∷ name_at 102 ∷ word SignLeftBracket ∷ word SignRightBracket ∷ name_at 114 ∷ word SignColon ∷ word WordInt ∷ word WordImport ∷ name_at 97 ∷ word SignComma ∷ word WordVar ∷ name_at 98 ∷ word WordPre ∷ number_at 49 ∷ word WordInit ∷ name_at 120 ∷ word SignAssign ∷ number_at 50 ∷ word SignComma ∷ name_at 121 ∷ word SignAssign ∷ number_at 51 ∷ word WordPost ∷ number_at 52 ∷ word WordResult ∷ number_at 53 ∷ word SignSemicolon ∷ word WordEnd ∷ name_at 102 ∷ []
+-- function f ( ) r : int import a , var b pre 1 init x := 2 , y := 3 post 4 handler ( k ) quit ; end handler result 5 ; end f
+function_row : spells (item.Subprogram (made (subprogram_view (subprogram.Whole (made (head_view (head.Function (letter 102) (Some (made (formals_view []))) (Some (letter 114)) (spec_of base.Int)))) (Some (made (import_view (import.Plain (made (import_item_view false (letter 97))) (made (import_item_view true (letter 98)) ∷ []))))) (made (rest_view (Some (made (pre_view (value 49)))) (Some (made (givens_view (made (given_view (letter 120) (value 50))) (made (given_view (letter 121) (value 51)) ∷ [])))) (Some (made (post_view (value 52)))) (Some (made (handler_view (letter 107) (block_of (statement.Quit ∷ []))))) (block_of (statement.Result (value 53) ∷ [])) (made (ending_view (letter 102)))))))))
+    ≡ word WordFunction ∷ name_at 102 ∷ word SignLeftBracket ∷ word SignRightBracket ∷ name_at 114 ∷ word SignColon ∷ word WordInt ∷ word WordImport ∷ name_at 97 ∷ word SignComma ∷ word WordVar ∷ name_at 98 ∷ word WordPre ∷ number_at 49 ∷ word WordInit ∷ name_at 120 ∷ word SignAssign ∷ number_at 50 ∷ word SignComma ∷ name_at 121 ∷ word SignAssign ∷ number_at 51 ∷ word WordPost ∷ number_at 52 ∷ word WordHandler ∷ word SignLeftBracket ∷ name_at 107 ∷ word SignRightBracket ∷ word WordQuit ∷ word SignSemicolon ∷ word WordEnd ∷ word WordHandler ∷ word WordResult ∷ number_at 53 ∷ word SignSemicolon ∷ word WordEnd ∷ name_at 102 ∷ []
 function_row = refl
 
 -- body procedure p end p
-body_row : spells (item.Subprogram (made (subprogram_view (subprogram.Body kind.Procedure (letter 112) (made (rest_view None None None (block_of []) (made (ending_view (letter 112)))))))))
+body_row : spells (item.Subprogram (made (subprogram_view (subprogram.Body kind.Procedure (letter 112) (made (rest_view None None None None (block_of []) (made (ending_view (letter 112)))))))))
     ≡ word WordBody ∷ word WordProcedure ∷ name_at 112 ∷ word WordEnd ∷ name_at 112 ∷ []
 body_row = refl
 
@@ -311,7 +318,7 @@ abbrev mutual
   calls_in_arms (Present (Arm m _ labels _ block arms)) = calls block ++ calls_in_arms arms
 
 abbrev calls_in_rest : Of r-rest → List (List ℕ)
-calls_in_rest (Rest m pre givens post block ending) = calls block
+calls_in_rest (Rest m pre givens post handler block ending) = calls block
 
 abbrev calls_in_subprogram : Of r-subprogram → List (List ℕ)
 calls_in_subprogram (ForwardSubprogram m _ head import) = []
@@ -356,6 +363,8 @@ parts_of (Put _ stream (Listed first more) end) = 1 + turns more
 parts_of (Get _ stream (Listed first more)) = 1 + turns more
 parts_of (Open _ _ path _ name _ mode) = 0
 parts_of (Close _ _ stream) = 0
+parts_of (Quit _) = 0
+parts_of (QuitWith _ _ number) = 0
 
 -- a definition by the forms of types: how deep arrays, records and unions lie in one another
 abbrev mutual

@@ -117,6 +117,8 @@ statement_form_falls (statement.Put stream first more is_open) = omega arith
 statement_form_falls (statement.Get stream first more) = omega arith
 statement_form_falls (statement.Open path name mode) = omega arith
 statement_form_falls (statement.Close stream) = omega arith
+statement_form_falls statement.Quit = omega arith
+statement_form_falls (statement.QuitWith number) = omega arith
 
 pub statement_falls : (a : statement_inside.Inside) → deep-Statement a ≤ height (statement_view a.form) + 1
 statement_falls a = omega (arith, statement_form_falls a.form)

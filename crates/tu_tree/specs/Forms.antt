@@ -2,8 +2,8 @@
 -- words between them, which a definition passes over. Those of expressions are passed on.
 use Rattle.grammar.specs.Description.{Description, rule}
 use Rattle.grammar.specs.Tree.{Mark, n-empty, n-sequence, n-left, n-right, n-rule, n-span, n-short}
-use Rattle.tu_token.specs.declared.class.Class.TheVariants.{Name, SignAssign, SignRange, SignStar, SignLeftBracket, SignRightBracket, SignComma, SignColon, SignSemicolon, WordArray, WordAssert, WordBegin, WordBind, WordBody, WordBoolean, WordCase, WordClose, WordCollection, WordConst, WordDecreasing, WordElsif, WordEnd, WordEnum, WordExit, WordExport, WordFor, WordForward, WordFree, WordFunction, WordGet, WordIf, WordImport, WordInit, WordInt, WordInvariant, WordLabel, WordLoop, WordModule, WordNew, WordOf, WordOpaque, WordOpen, WordPointer, WordPost, WordPre, WordProcedure, WordPut, WordRecord, WordResult, WordReturn, WordSet, WordString, WordTag, WordThen, WordTo, WordType, WordUnion, WordVar, WordWhen}
-use Rattle.tu_token.specs.Rules.{Rule, many, maybe, t, listed, r-program, r-item, r-block, r-const, r-var, r-type, r-names, r-start, r-bind, r-binding, r-spec, r-index, r-base, r-range, r-name, r-field, r-variant, r-subprogram, r-head, r-formals, r-formal, r-rest, r-given, r-import, r-imp, r-export, r-exp, r-module, r-statement, r-shown, r-taken, r-expr, r-path, r-pre, r-givens, r-post, r-invariant, r-ending, r-elsif, r-arm, r-any}
+use Rattle.tu_token.specs.declared.class.Class.TheVariants.{Name, SignAssign, SignRange, SignStar, SignLeftBracket, SignRightBracket, SignComma, SignColon, SignSemicolon, WordArray, WordAssert, WordBegin, WordBind, WordBody, WordBoolean, WordCase, WordClose, WordCollection, WordConst, WordDecreasing, WordElsif, WordEnd, WordEnum, WordExit, WordExport, WordFor, WordForward, WordFree, WordFunction, WordGet, WordHandler, WordIf, WordImport, WordInit, WordInt, WordInvariant, WordLabel, WordLoop, WordModule, WordNew, WordOf, WordOpaque, WordOpen, WordPointer, WordPost, WordPre, WordProcedure, WordPut, WordQuit, WordRecord, WordResult, WordReturn, WordSet, WordString, WordTag, WordThen, WordTo, WordType, WordUnion, WordVar, WordWhen}
+use Rattle.tu_token.specs.Rules.{Rule, many, maybe, t, listed, r-program, r-item, r-block, r-const, r-var, r-type, r-names, r-start, r-bind, r-binding, r-spec, r-index, r-base, r-range, r-name, r-field, r-variant, r-subprogram, r-head, r-formals, r-formal, r-rest, r-given, r-import, r-imp, r-export, r-exp, r-module, r-statement, r-shown, r-taken, r-expr, r-path, r-pre, r-givens, r-post, r-handler, r-invariant, r-ending, r-elsif, r-arm, r-any}
 use Rattle.tu_token.specs.Syntax.{Of}
 use Rattle.tu_expr.specs.Parts.{Part}
 pub use Rattle.tu_expr.specs.Forms.{Present, Absent, More, NoMore, Behind, Listed, Expr, Or, And, Not, Compare, Sum, Term, Prefix, Power, Related, Equal, NotEqual, Less, Greater, LessOrEqual, GreaterOrEqual, In, NotIn, Added, Subtracted, Multiplied, Divided, Reduced, Plus, Minus, NumberValue, TrueValue, FalseValue, PathValue, Brackets, TextValue, NilValue, Bracketed, Path, FieldStep, ArgumentStep, OneArg, PartArg, AllArg, ValuePlace, LengthPlace, LengthLessPlace}
@@ -187,15 +187,18 @@ Formals m left items right = n-rule m (n-sequence left (n-sequence items right))
 pattern abbrev pub Formal : Mark → Part (maybe (t WordVar)) → Of r-names → Part (t SignColon) → Of r-spec → Of r-formal
 Formal m var names colon spec = n-rule m (n-sequence var (n-sequence names (n-sequence colon spec)))
 
-pattern abbrev pub Rest : Mark → Part (maybe (rule r-pre)) → Part (maybe (rule r-givens)) → Part (maybe (rule r-post)) → Of r-block → Of r-ending → Of r-rest
-Rest m pre givens post block ending = n-rule m (n-sequence pre (n-sequence givens (n-sequence post (n-sequence block ending))))
+pattern abbrev pub Rest : Mark → Part (maybe (rule r-pre)) → Part (maybe (rule r-givens)) → Part (maybe (rule r-post)) → Part (maybe (rule r-handler)) → Of r-block → Of r-ending → Of r-rest
+Rest m pre givens post handler block ending = n-rule m (n-sequence pre (n-sequence givens (n-sequence post (n-sequence handler (n-sequence block ending)))))
 
--- clauses and ends
+-- clauses, handlers and ends
 pattern abbrev pub Pre : Mark → Part (t WordPre) → Of r-expr → Of r-pre
 Pre m word condition = n-rule m (n-sequence word condition)
 
 pattern abbrev pub Post : Mark → Part (t WordPost) → Of r-expr → Of r-post
 Post m word condition = n-rule m (n-sequence word condition)
+
+pattern abbrev pub Handler : Mark → Part (t WordHandler) → Part (t SignLeftBracket) → Part (t Name) → Part (t SignRightBracket) → Of r-block → Part (t WordEnd) → Part (t WordHandler) → Of r-handler
+Handler m word left name right block end again = n-rule m (n-sequence word (n-sequence left (n-sequence name (n-sequence right (n-sequence block (n-sequence end again))))))
 
 pattern abbrev pub Invariant : Mark → Part (t WordInvariant) → Of r-expr → Of r-invariant
 Invariant m word condition = n-rule m (n-sequence word condition)
@@ -323,7 +326,13 @@ Open word colon path comma name again mode =
     n-right (n-right (n-right (n-right (n-right (n-right (n-right (n-right (n-right (n-left (n-sequence word (n-sequence colon (n-sequence path (n-sequence comma (n-sequence name (n-sequence again mode)))))))))))))))
 
 pattern abbrev pub Close : Part (t WordClose) → Part (t SignColon) → Of r-expr → Part simple
-Close word colon stream = n-right (n-right (n-right (n-right (n-right (n-right (n-right (n-right (n-right (n-right (n-sequence word (n-sequence colon stream)))))))))))
+Close word colon stream = n-right (n-right (n-right (n-right (n-right (n-right (n-right (n-right (n-right (n-right (n-left (n-sequence word (n-sequence colon stream))))))))))))
+
+pattern abbrev pub Quit : Part (t WordQuit) → Part simple
+Quit word = n-right (n-right (n-right (n-right (n-right (n-right (n-right (n-right (n-right (n-right (n-right (n-sequence word (n-right n-empty))))))))))))
+
+pattern abbrev pub QuitWith : Part (t WordQuit) → Part (t SignColon) → Of r-expr → Part simple
+QuitWith word colon number = n-right (n-right (n-right (n-right (n-right (n-right (n-right (n-right (n-right (n-right (n-right (n-sequence word (n-left (n-sequence colon number)))))))))))))
 
 -- what is put or taken, from where, and how
 pattern abbrev pub Stream : Part (t SignColon) → Of r-expr → Part (t SignComma) → Part streams

@@ -2,7 +2,7 @@
 use Rattle.std.specs.Prelude.{Bool, List, [], ◌∷◌, Option, Some, None}
 use Rattle.grammar.specs.Description.{Description, rule}
 use Rattle.grammar.specs.Tree.{n-token, n-empty, n-sequence, n-left, n-right, n-rule, repeated}
-use Rattle.tu_token.specs.declared.class.Class.TheVariants.{Name, SignRange, SignStar, SignComma, SignColon, WordAssert, WordClose, WordDecreasing, WordElse, WordExit, WordFree, WordGet, WordNew, WordOpen, WordPut, WordResult, WordReturn, WordTag, WordWhen}
+use Rattle.tu_token.specs.declared.class.Class.TheVariants.{Name, SignRange, SignStar, SignComma, SignColon, WordAssert, WordClose, WordDecreasing, WordElse, WordExit, WordFree, WordGet, WordNew, WordOpen, WordPut, WordQuit, WordResult, WordReturn, WordTag, WordWhen}
 use Rattle.tu_token.specs.Rules.{Rule, ◌⨟◌, ◌∣◌, many, maybe, t, listed, body, r-block, r-const, r-var, r-type, r-bind, r-statement, r-shown, r-taken, r-expr, r-path, r-invariant, r-elsif, r-arm}
 use Rattle.tu_token.specs.Syntax.{Of}
 use Rattle.tu_expr.specs.Leaves.{leaf_view, spot_mark}
@@ -87,6 +87,7 @@ simple =
     ∣ t WordGet ⨟ maybe streams ⨟ listed r-taken
     ∣ t WordOpen ⨟ t SignColon ⨟ rule r-path ⨟ t SignComma ⨟ rule r-expr ⨟ t SignComma ⨟ modes
     ∣ t WordClose ⨟ t SignColon ⨟ rule r-expr
+    ∣ t WordQuit ⨟ maybe (t SignColon ⨟ rule r-expr)
 
 abbrev pub statement_view : StatementForm → Part (body r-statement)
 statement_view (statement.Assign path value) = n-left (n-sequence path (n-left (n-sequence n-token value)))
@@ -122,7 +123,11 @@ statement_view (statement.Open path name mode) =
     n-right (n-right (n-right (n-right (n-right (n-right (n-right (n-right (n-right (n-right (n-right (n-right (n-right (n-right (n-right (n-left
     (n-sequence n-token (n-sequence n-token (n-sequence path (n-sequence n-token (n-sequence name (n-sequence n-token (mode_view mode))))))))))))))))))))))
 statement_view (statement.Close stream) =
-    n-right (n-right (n-right (n-right (n-right (n-right (n-right (n-right (n-right (n-right (n-right (n-right (n-right (n-right (n-right (n-right (n-sequence n-token (n-sequence n-token stream)))))))))))))))))
+    n-right (n-right (n-right (n-right (n-right (n-right (n-right (n-right (n-right (n-right (n-right (n-right (n-right (n-right (n-right (n-right (n-left (n-sequence n-token (n-sequence n-token stream))))))))))))))))))
+statement_view statement.Quit =
+    n-right (n-right (n-right (n-right (n-right (n-right (n-right (n-right (n-right (n-right (n-right (n-right (n-right (n-right (n-right (n-right (n-right (n-sequence n-token (n-right n-empty))))))))))))))))))
+statement_view (statement.QuitWith number) =
+    n-right (n-right (n-right (n-right (n-right (n-right (n-right (n-right (n-right (n-right (n-right (n-right (n-right (n-right (n-right (n-right (n-right (n-sequence n-token (n-left (n-sequence n-token number)))))))))))))))))))
 
 -- the least width of a value that is put, and how much a variable takes
 abbrev pub widths : Description Rule

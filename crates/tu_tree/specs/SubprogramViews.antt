@@ -3,8 +3,9 @@ use Rattle.std.specs.Prelude.{Bool, List, Option}
 use Rattle.grammar.specs.Description.{Description, rule}
 use Rattle.grammar.specs.Tree.{n-token, n-sequence, n-left, n-right}
 use Rattle.tu_token.specs.declared.class.Class.TheVariants.{Name, WordFunction, WordProcedure, WordVar}
-use Rattle.tu_token.specs.Rules.{Rule, ◌∣◌, t, body, r-block, r-names, r-spec, r-subprogram, r-head, r-formals, r-formal, r-rest, r-import, r-pre, r-givens, r-post, r-ending}
+use Rattle.tu_token.specs.Rules.{Rule, ◌∣◌, t, body, r-block, r-names, r-spec, r-subprogram, r-head, r-formals, r-formal, r-rest, r-import, r-pre, r-givens, r-post, r-handler, r-ending}
 use Rattle.tu_token.specs.Syntax.{Of}
+use Rattle.tu_expr.specs.declared.leaf.Leaf.{Leaf}
 use Rattle.tu_expr.specs.Leaves.{leaf_view}
 use Rattle.tu_expr.specs.Parts.{Part, any_listing, optional}
 use Rattle.tu_tree.specs.declared.subprogram.SubprogramForm.{SubprogramForm}
@@ -40,6 +41,9 @@ formals_view items = n-sequence n-token (n-sequence (any_listing r-formal items)
 abbrev pub formal_view : Bool → Of r-names → Of r-spec → Part (body r-formal)
 formal_view is_var names spec = n-sequence (flag WordVar is_var) (n-sequence names (n-sequence n-token spec))
 
-abbrev pub rest_view : Option (Of r-pre) → Option (Of r-givens) → Option (Of r-post) → Of r-block → Of r-ending → Part (body r-rest)
-rest_view pre givens post block ending =
-    n-sequence (optional (rule r-pre) pre) (n-sequence (optional (rule r-givens) givens) (n-sequence (optional (rule r-post) post) (n-sequence block ending)))
+abbrev pub handler_view : Leaf → Of r-block → Part (body r-handler)
+handler_view name block = n-sequence n-token (n-sequence n-token (n-sequence (leaf_view Name name) (n-sequence n-token (n-sequence block (n-sequence n-token n-token)))))
+
+abbrev pub rest_view : Option (Of r-pre) → Option (Of r-givens) → Option (Of r-post) → Option (Of r-handler) → Of r-block → Of r-ending → Part (body r-rest)
+rest_view pre givens post handler block ending =
+    n-sequence (optional (rule r-pre) pre) (n-sequence (optional (rule r-givens) givens) (n-sequence (optional (rule r-post) post) (n-sequence (optional (rule r-handler) handler) (n-sequence block ending))))

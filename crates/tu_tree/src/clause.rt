@@ -3,7 +3,7 @@ use std::marker::Model;
 use tu_expr::{At, Expr, Leaf, Spot};
 
 /// What holds where a subprogram begins.
-#[derive(Debug, Drop)]
+#[derive(Drop)]
 pub struct Pre {
     pub spot: Spot,
     pub condition: Boxed<Expr>,
@@ -25,7 +25,7 @@ impl Model for Pre {
 }
 
 /// What holds where a subprogram ends.
-#[derive(Debug, Drop)]
+#[derive(Drop)]
 pub struct Post {
     pub spot: Spot,
     pub condition: Boxed<Expr>,
@@ -47,7 +47,7 @@ impl Model for Post {
 }
 
 /// What holds at each turn of a loop, or around each call of a module's subprograms.
-#[derive(Debug, Drop)]
+#[derive(Drop)]
 pub struct Invariant {
     pub spot: Spot,
     pub condition: Boxed<Expr>,
@@ -69,7 +69,7 @@ impl Model for Invariant {
 }
 
 /// Names for values that a subprogram begins with.
-#[derive(Debug, Drop)]
+#[derive(Drop)]
 pub struct Givens {
     pub spot: Spot,
     pub first: Given,
@@ -92,7 +92,7 @@ impl Model for Givens {
 }
 
 /// A name for a value.
-#[derive(Debug, Drop)]
+#[derive(Drop)]
 pub struct Given {
     pub at: At,
     pub name: Leaf,
@@ -115,7 +115,7 @@ impl Model for Given {
 }
 
 /// The `end` of a subprogram or module, with its name.
-#[derive(Debug, Drop)]
+#[derive(Drop)]
 pub struct Ending {
     pub spot: Spot,
     pub name: Leaf,

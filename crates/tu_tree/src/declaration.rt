@@ -4,7 +4,7 @@ use std::marker::Model;
 use tu_expr::{At, Expr, Leaf, Path};
 
 /// The declaration of a constant.
-#[derive(Debug, Drop)]
+#[derive(Drop)]
 pub struct Const {
     pub at: At,
     pub name: Leaf,
@@ -28,14 +28,14 @@ impl Model for Const {
 }
 
 /// The declaration of variables or collections.
-#[derive(Debug, Drop)]
+#[derive(Drop)]
 pub struct Var {
     pub at: At,
     pub names: Names,
     pub form: VarForm,
 }
 
-#[derive(Debug, Drop)]
+#[derive(Drop)]
 pub enum VarForm {
     /// Of elements of a type.
     Collection(Spec),
@@ -61,7 +61,7 @@ impl Model for Var {
 }
 
 /// The declaration of a type.
-#[derive(Debug, Drop)]
+#[derive(Drop)]
 pub struct TypeDeclaration {
     pub at: At,
     pub name: Leaf,
@@ -85,14 +85,14 @@ impl Model for TypeDeclaration {
 
 /// What a variable or a constant begins with.
 #[cycle(start)]
-#[derive(Debug, Drop)]
+#[derive(Drop)]
 pub struct Start {
     pub at: At,
     pub form: StartForm,
 }
 
 #[cycle(start)]
-#[derive(Debug, Drop)]
+#[derive(Drop)]
 pub enum StartForm {
     Value(Boxed<Expr>),
     /// The values of its parts.
@@ -121,7 +121,7 @@ impl Model for Start {
 }
 
 /// Names for parts of variables.
-#[derive(Debug, Drop)]
+#[derive(Drop)]
 pub struct Bind {
     pub at: At,
     pub first: Binding,
@@ -144,7 +144,7 @@ impl Model for Bind {
 }
 
 /// A name for a part of a variable.
-#[derive(Debug, Drop)]
+#[derive(Drop)]
 pub struct Binding {
     pub at: At,
     /// Whether the part may be changed by the name.

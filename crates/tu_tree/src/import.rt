@@ -3,13 +3,13 @@ use std::marker::Model;
 use tu_expr::{At, Leaf};
 
 /// The names that a subprogram or module takes from around it.
-#[derive(Debug, Drop)]
+#[derive(Drop)]
 pub struct Import {
     pub at: At,
     pub form: ImportForm,
 }
 
-#[derive(Debug, Drop)]
+#[derive(Drop)]
 pub enum ImportForm {
     /// In brackets.
     Bracketed(Items<ImportItem>),
@@ -32,7 +32,7 @@ impl Model for Import {
 }
 
 /// An imported name.
-#[derive(Debug, Drop)]
+#[derive(Drop)]
 pub struct ImportItem {
     pub at: At,
     /// Whether it may be changed.
@@ -56,13 +56,13 @@ impl Model for ImportItem {
 }
 
 /// The names that a module shows around it.
-#[derive(Debug, Drop)]
+#[derive(Drop)]
 pub struct Export {
     pub at: At,
     pub form: ExportForm,
 }
 
-#[derive(Debug, Drop)]
+#[derive(Drop)]
 pub enum ExportForm {
     /// In brackets.
     Bracketed(Items<ExportItem>),
@@ -85,7 +85,7 @@ impl Model for Export {
 }
 
 /// An exported name.
-#[derive(Debug, Drop)]
+#[derive(Drop)]
 pub struct ExportItem {
     pub at: At,
     /// Whether what it is stays hidden.

@@ -10,104 +10,27 @@ mod spec;
 mod statement;
 mod subprogram;
 
-pub use clause::Ending;
-pub use clause::Given;
-pub use clause::Givens;
-pub use clause::Invariant;
-pub use clause::Post;
-pub use clause::Pre;
-pub use declaration::Bind;
-pub use declaration::Binding;
-pub use declaration::Const;
-pub use declaration::Start;
-pub use declaration::StartForm;
-pub use declaration::TypeDeclaration;
-pub use declaration::Var;
-pub use declaration::VarForm;
-pub use import::Export;
-pub use import::ExportForm;
-pub use import::ExportItem;
-pub use import::Import;
-pub use import::ImportForm;
-pub use import::ImportItem;
-pub use program::Item;
-pub use program::ItemForm;
-pub use program::Module;
-pub use program::ModulePart;
-pub use program::Tree;
-pub use spec::Array;
-pub use spec::Base;
-pub use spec::BaseForm;
-pub use spec::Field;
-pub use spec::Index;
-pub use spec::IndexForm;
-pub use spec::Name;
-pub use spec::Names;
-pub use spec::Range;
-pub use spec::RangeForm;
-pub use spec::Spec;
-pub use spec::StringSize;
-pub use spec::Variant;
-pub use statement::Amount;
-pub use statement::Arm;
-pub use statement::Block;
-pub use statement::BlockPart;
-pub use statement::Elsif;
-pub use statement::OpenMode;
-pub use statement::Otherwise;
-pub use statement::Shown;
-pub use statement::Statement;
-pub use statement::StatementForm;
-pub use statement::Taken;
-pub use subprogram::Formal;
-pub use subprogram::Formals;
-pub use subprogram::Head;
-pub use subprogram::HeadForm;
-pub use subprogram::Rest;
-pub use subprogram::Subprogram;
-pub use subprogram::SubprogramForm;
-pub use subprogram::SubprogramKind;
-pub use tu_expr::And;
-pub use tu_expr::Arg;
-pub use tu_expr::ArgForm;
-pub use tu_expr::At;
-pub use tu_expr::Compare;
-pub use tu_expr::Expr;
-pub use tu_expr::Leaf;
-pub use tu_expr::Multiplication;
-pub use tu_expr::Not;
-pub use tu_expr::Or;
-pub use tu_expr::Path;
-pub use tu_expr::Place;
-pub use tu_expr::PlaceForm;
-pub use tu_expr::Power;
-pub use tu_expr::Prefix;
-pub use tu_expr::Primary;
-pub use tu_expr::PrimaryForm;
-pub use tu_expr::Relation;
-pub use tu_expr::RelationKind;
-pub use tu_expr::Sign;
-pub use tu_expr::Spot;
-pub use tu_expr::Step;
-pub use tu_expr::Sum;
-pub use tu_expr::Term;
-pub use tu_token::AliasError;
-pub use tu_token::Before;
-pub use tu_token::Class;
-pub use tu_token::Construct;
-pub use tu_token::EffectError;
-pub use tu_token::LexError;
-pub use tu_token::ParseError;
-pub use tu_token::Refusal;
-pub use tu_token::Role;
-pub use tu_token::ScopeError;
-pub use tu_token::Token;
-pub use tu_token::Tokens;
-pub use tu_token::TypeError;
-pub use tu_token::one_fault;
-pub use tu_token::one_syntax_fault;
-pub use tu_token::one_token_decides;
-pub use tu_token::one_token_list;
-pub use tu_token::one_tree;
-pub use tu_token::table_is_as_printed;
-pub use tu_token::tree_or_fault;
+pub use clause::{Ending, Given, Givens, Invariant, Post, Pre};
+pub use declaration::{Bind, Binding, Const, Start, StartForm, TypeDeclaration, Var, VarForm};
+pub use import::{Export, ExportForm, ExportItem, Import, ImportForm, ImportItem};
+pub use program::{Item, ItemForm, Module, ModulePart, Tree};
+pub use spec::{
+    Array, Base, BaseForm, Field, Index, IndexForm, Name, Names, Range, RangeForm, Spec,
+    StringSize, Variant,
+};
+pub use statement::{
+    Amount, Arm, Block, BlockPart, Elsif, OpenMode, Otherwise, Shown, Statement, StatementForm,
+    Taken,
+};
+pub use subprogram::{
+    Formal, Formals, Handler, Head, HeadForm, Rest, Subprogram, SubprogramForm, SubprogramKind,
+};
+pub use tu_expr::{
+    And, Arg, ArgForm, At, Compare, Expr, Leaf, Multiplication, Not, Or, Path, Place, PlaceForm,
+    Power, Prefix, Primary, PrimaryForm, Relation, RelationKind, Sign, Spot, Step, Sum, Term,
+};
+pub use tu_token::{
+    Before, Class, Construct, LexError, ParseError, Role, Token, Tokens, one_fault,
+    one_syntax_fault, one_token_decides, one_token_list, one_tree, spelling, spelling_is_read,
+    table_is_as_printed, tree_or_fault, word_class,
+};

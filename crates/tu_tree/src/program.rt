@@ -6,10 +6,16 @@ use std::marker::Model;
 use tu_expr::{At, Leaf};
 
 /// A program: its items, each with whether a semicolon follows.
-#[derive(Debug, Drop)]
 pub struct Tree {
     pub at: At,
     pub items: Items<(Item, bool)>,
+}
+
+// Written, so that a crate that drops a tree calls this, and does not prove anew how each part is dropped.
+impl Drop for Tree {
+    fn drop(self) {
+        let Tree { at: _, items: _ } = self;
+    }
 }
 
 impl Model for Tree {
@@ -28,13 +34,13 @@ impl Model for Tree {
 }
 
 /// A declaration, module or statement of a program.
-#[derive(Debug, Drop)]
+#[derive(Drop)]
 pub struct Item {
     pub at: At,
     pub form: ItemForm,
 }
 
-#[derive(Debug, Drop)]
+#[derive(Drop)]
 pub enum ItemForm {
     Const(Const),
     Var(Var),
@@ -60,7 +66,7 @@ impl Model for Item {
 }
 
 /// A module: its parts, each with whether a semicolon follows.
-#[derive(Debug, Drop)]
+#[derive(Drop)]
 pub struct Module {
     pub at: At,
     pub name: Leaf,
@@ -70,7 +76,7 @@ pub struct Module {
     pub ending: Ending,
 }
 
-#[derive(Debug, Drop)]
+#[derive(Drop)]
 pub enum ModulePart {
     Const(Const),
     Var(Var),

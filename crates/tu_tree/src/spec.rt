@@ -3,7 +3,7 @@ use std::marker::Model;
 use tu_expr::{At, Expr, Leaf, Spot};
 
 /// A name, or that of a module's name.
-#[derive(Debug, Drop)]
+#[derive(Drop)]
 pub struct Name {
     pub at: At,
     pub first: Leaf,
@@ -27,7 +27,7 @@ impl Model for Name {
 }
 
 /// Names with commas between.
-#[derive(Debug, Drop)]
+#[derive(Drop)]
 pub struct Names {
     pub at: At,
     pub first: Leaf,
@@ -50,13 +50,13 @@ impl Model for Names {
 }
 
 /// The values from one to another, or those of a named type.
-#[derive(Debug, Drop)]
+#[derive(Drop)]
 pub struct Range {
     pub at: At,
     pub form: RangeForm,
 }
 
-#[derive(Debug, Drop)]
+#[derive(Drop)]
 pub enum RangeForm {
     /// From one value to another.
     Bounds(Boxed<Expr>, Boxed<Expr>),
@@ -79,13 +79,13 @@ impl Model for Range {
 }
 
 /// The subscripts of one dimension.
-#[derive(Debug, Drop)]
+#[derive(Drop)]
 pub struct Index {
     pub at: At,
     pub form: IndexForm,
 }
 
-#[derive(Debug, Drop)]
+#[derive(Drop)]
 pub enum IndexForm {
     /// From one subscript to another.
     Bounds(Boxed<Expr>, Boxed<Expr>),
@@ -111,7 +111,7 @@ impl Model for Index {
 
 /// A type: arrays of arrays of a base.
 #[cycle(spec)]
-#[derive(Debug, Drop)]
+#[derive(Drop)]
 pub struct Spec {
     pub at: At,
     pub arrays: Items<Array>,
@@ -119,7 +119,7 @@ pub struct Spec {
 }
 
 /// The dimensions of an array.
-#[derive(Debug, Drop)]
+#[derive(Drop)]
 pub struct Array {
     pub first: Index,
     pub more: Items<Index>,
@@ -148,14 +148,14 @@ impl Model for Spec {
 
 /// A type that is no array.
 #[cycle(spec)]
-#[derive(Debug, Drop)]
+#[derive(Drop)]
 pub struct Base {
     pub at: At,
     pub form: BaseForm,
 }
 
 #[cycle(spec)]
-#[derive(Debug, Drop)]
+#[derive(Drop)]
 pub enum BaseForm {
     Int,
     Boolean,
@@ -175,7 +175,7 @@ pub enum BaseForm {
 }
 
 /// What stands in brackets behind `string`.
-#[derive(Debug, Drop)]
+#[derive(Drop)]
 pub enum StringSize {
     /// Nothing: the greatest length is 255.
     Whole,
@@ -208,7 +208,7 @@ impl Model for Base {
 
 /// Fields of one type.
 #[cycle(spec)]
-#[derive(Debug, Drop)]
+#[derive(Drop)]
 pub struct Field {
     pub at: At,
     pub names: Names,
@@ -240,7 +240,7 @@ impl Model for Field {
 
 /// The fields that a union has under some labels, or under all others.
 #[cycle(spec)]
-#[derive(Debug, Drop)]
+#[derive(Drop)]
 pub struct Variant {
     pub at: At,
     pub labels: Items<Expr>,

@@ -5,14 +5,14 @@ use tu_expr::{At, Expr, Leaf, Path, Spot};
 
 /// Declarations and statements, each with whether a semicolon follows.
 #[cycle(block)]
-#[derive(Debug, Drop)]
+#[derive(Drop)]
 pub struct Block {
     pub at: At,
     pub parts: Items<(BlockPart, bool)>,
 }
 
 #[cycle(block)]
-#[derive(Debug, Drop)]
+#[derive(Drop)]
 pub enum BlockPart {
     Const(Const),
     Var(Var),
@@ -44,14 +44,14 @@ impl Model for Block {
 
 /// A statement.
 #[cycle(block)]
-#[derive(Debug, Drop)]
+#[derive(Drop)]
 pub struct Statement {
     pub at: At,
     pub form: StatementForm,
 }
 
 #[cycle(block)]
-#[derive(Debug, Drop)]
+#[derive(Drop)]
 pub enum StatementForm {
     Assign(Path, Boxed<Expr>),
     /// A call of a procedure.
@@ -101,10 +101,14 @@ pub enum StatementForm {
     /// The variable for the stream, the file's name, and what it is opened for.
     Open(Path, Boxed<Expr>, OpenMode),
     Close(Boxed<Expr>),
+    /// The exception that a handler took, raised again.
+    Quit,
+    /// The exception with a number.
+    QuitWith(Boxed<Expr>),
 }
 
 /// What a stream is opened for.
-#[derive(Clone, Copy, Debug, PartialEq, Eq)]
+#[derive(Clone, Copy, PartialEq, Eq)]
 pub enum OpenMode {
     Put,
     Get,
@@ -112,7 +116,7 @@ pub enum OpenMode {
 
 /// An arm of a `case`; the place of its `label`.
 #[cycle(block)]
-#[derive(Debug, Drop)]
+#[derive(Drop)]
 pub struct Arm {
     pub spot: Spot,
     pub first: Boxed<Expr>,
@@ -122,7 +126,7 @@ pub struct Arm {
 
 /// The last arm of a `case`, without labels; the place of its `label`.
 #[cycle(block)]
-#[derive(Debug, Drop)]
+#[derive(Drop)]
 pub struct Otherwise {
     pub spot: Spot,
     pub block: Block,
@@ -151,7 +155,7 @@ impl Model for Statement {
 
 /// A further condition of an `if`, and its block.
 #[cycle(block)]
-#[derive(Debug, Drop)]
+#[derive(Drop)]
 pub struct Elsif {
     pub spot: Spot,
     pub condition: Boxed<Expr>,
@@ -180,7 +184,7 @@ impl Model for Elsif {
 }
 
 /// A value that is put, with its least width or without.
-#[derive(Debug, Drop)]
+#[derive(Drop)]
 pub struct Shown {
     pub at: At,
     pub value: Boxed<Expr>,
@@ -203,7 +207,7 @@ impl Model for Shown {
 }
 
 /// A variable that takes input, and how much.
-#[derive(Debug, Drop)]
+#[derive(Drop)]
 pub struct Taken {
     pub at: At,
     pub path: Path,
@@ -211,7 +215,7 @@ pub struct Taken {
 }
 
 /// How much a variable takes.
-#[derive(Debug, Drop)]
+#[derive(Drop)]
 pub enum Amount {
     Token,
     Line,

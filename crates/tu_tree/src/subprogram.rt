@@ -1,16 +1,16 @@
 use crate::{Block, Ending, Givens, Import, Names, Post, Pre, Spec};
 use sqlite_items::Items;
 use std::marker::Model;
-use tu_expr::{At, Leaf};
+use tu_expr::{At, Leaf, Spot};
 
 /// A procedure or function, or its head or body alone.
-#[derive(Debug, Drop)]
+#[derive(Drop)]
 pub struct Subprogram {
     pub at: At,
     pub form: SubprogramForm,
 }
 
-#[derive(Debug, Drop)]
+#[derive(Drop)]
 pub enum SubprogramForm {
     /// The head alone.
     Forward(Head, Option<Import>),
@@ -19,7 +19,7 @@ pub enum SubprogramForm {
     Body(SubprogramKind, Leaf, Rest),
 }
 
-#[derive(Clone, Copy, Debug, PartialEq, Eq)]
+#[derive(Clone, Copy, PartialEq, Eq)]
 pub enum SubprogramKind {
     Procedure,
     Function,
@@ -41,13 +41,13 @@ impl Model for Subprogram {
 }
 
 /// The name and parameters of a subprogram.
-#[derive(Debug, Drop)]
+#[derive(Drop)]
 pub struct Head {
     pub at: At,
     pub form: HeadForm,
 }
 
-#[derive(Debug, Drop)]
+#[derive(Drop)]
 pub enum HeadForm {
     Procedure(Leaf, Option<Formals>),
     Function {
@@ -75,7 +75,7 @@ impl Model for Head {
 }
 
 /// The parameters of a subprogram.
-#[derive(Debug, Drop)]
+#[derive(Drop)]
 pub struct Formals {
     pub at: At,
     pub items: Items<Formal>,
@@ -97,7 +97,7 @@ impl Model for Formals {
 }
 
 /// Parameters of one type.
-#[derive(Debug, Drop)]
+#[derive(Drop)]
 pub struct Formal {
     pub at: At,
     /// Whether they may be changed.
@@ -121,13 +121,38 @@ impl Model for Formal {
     ghost view = { λ s. n-rule (mark s.at) (formal_view s.is_var s.names s.spec) };
 }
 
-/// The clauses and the body of a subprogram.
-#[derive(Debug, Drop)]
+/// What a subprogram does with an exception of its body; the place of its `handler`.
+#[derive(Drop)]
+pub struct Handler {
+    pub spot: Spot,
+    /// The constant that holds the number of the exception.
+    pub name: Leaf,
+    pub block: Block,
+}
+
+impl Model for Handler {
+    ghost use Rattle.grammar.specs.Tree.{n-rule};
+    ghost use Rattle.tu_token.specs.Rules.{r-handler};
+    ghost use Rattle.tu_token.specs.Syntax.{Of, coded_of};
+
+    ghost Value = { Of r-handler };
+
+    ghost coded = { coded_of r-handler };
+
+    ghost use Rattle.tu_expr.specs.Leaves.{spot_mark};
+    ghost use Rattle.tu_tree.specs.SubprogramViews.{handler_view};
+
+    ghost view = { λ s. n-rule (spot_mark s.spot) (handler_view s.name s.block) };
+}
+
+/// The clauses, the handler and the body of a subprogram.
+#[derive(Drop)]
 pub struct Rest {
     pub at: At,
     pub pre: Option<Pre>,
     pub givens: Option<Givens>,
     pub post: Option<Post>,
+    pub handler: Option<Handler>,
     pub block: Block,
     pub ending: Ending,
 }
@@ -144,5 +169,5 @@ impl Model for Rest {
     ghost use Rattle.tu_expr.specs.Leaves.{mark};
     ghost use Rattle.tu_tree.specs.SubprogramViews.{rest_view};
 
-    ghost view = { λ s. n-rule (mark s.at) (rest_view s.pre s.givens s.post s.block s.ending) };
+    ghost view = { λ s. n-rule (mark s.at) (rest_view s.pre s.givens s.post s.handler s.block s.ending) };
 }

@@ -1,6 +1,8 @@
-pub mod Alone
+-- for the crates above
 pub mod Flags
-pub mod Grouping
-pub mod NamePlaces
-pub mod Shortenings
-pub mod Spans
+-- of this crate alone
+mod Alone
+mod Grouping
+mod NamePlaces
+mod Shortenings
+mod Spans

@@ -14,13 +14,16 @@ use tu_reader::{Cursor, Stop, expr};
 use tu_tree::{Class, Expr, Index, IndexForm, Name, Range, RangeForm};
 
 // The name that an expression before is, with the number that it has as a name.
-fn shortened(alloc: Global, tokens: &mut Cursor<'_>, from: &Expr) -> Result<Name, Stop>
-    requires { (mark_of from.now).number < 4294967295 }
-    ensures { Shortens from.now result tokens.old tokens.new }
+fn shortened(alloc: Global, tokens: &mut Cursor<'_>, from: Expr) -> Result<Name, Stop>
+    requires { (mark_of from).number < 4294967295 }
+    ensures { Shortens from result tokens.old tokens.new }
 {
-    match name_of(alloc, from)? {
+    let number = from.at.number;
+    let name = name_of(alloc, &from);
+    drop(from);
+    match name? {
         Some(name) => {
-            tokens.renumber(from.at.number + 1);
+            tokens.renumber(number + 1);
             Ok(name)
         }
         None => Err(Stop::Unexpected),
@@ -46,12 +49,12 @@ fn range_form(alloc: Global, tokens: &mut Cursor<'_>, depth: u32) -> Result<Rang
     let from = expr(alloc, tokens, depth)?;
     if tokens.sees(Class::SignRange) {
         tokens.skip(Class::SignRange);
-        let to = expr(alloc, tokens, depth)?;
         let from = Boxed::new(alloc, from)?;
+        let to = expr(alloc, tokens, depth)?;
         let to = Boxed::new(alloc, to)?;
         return Ok(RangeForm::Bounds(from, to));
     }
-    let name = shortened(alloc, tokens, &from)?;
+    let name = shortened(alloc, tokens, from)?;
     Ok(RangeForm::Named(name))
 }
 
@@ -84,6 +87,6 @@ fn index_form(alloc: Global, tokens: &mut Cursor<'_>, depth: u32) -> Result<Inde
         let to = Boxed::new(alloc, to)?;
         return Ok(IndexForm::Bounds(from, to));
     }
-    let name = shortened(alloc, tokens, &from)?;
+    let name = shortened(alloc, tokens, from)?;
     Ok(IndexForm::Named(name))
 }

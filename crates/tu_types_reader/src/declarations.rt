@@ -14,6 +14,7 @@ use crate::naming::names;
 use crate::types::spec;
 use sqlite_items::{Boxed, Items};
 use std::alloc::Global;
+use tu_base::Held;
 use tu_reader::{Cursor, Stop, expr, path};
 use tu_tree::{Bind, Binding, Class, Const, Spec, Start, StartForm, TypeDeclaration, Var, VarForm};
 
@@ -27,8 +28,10 @@ pub fn constant(alloc: Global, tokens: &mut Cursor<'_>, depth: u32) -> Result<Co
     tokens.expect(Class::WordConst)?;
     let name = tokens.leaf(alloc, Class::Name)?;
     let spec = typed(alloc, tokens, depth)?;
+    let spec = Held::new(spec);
     tokens.expect(Class::SignAssign)?;
     let start = start(alloc, tokens, depth)?;
+    let spec = spec.into_inner();
     Ok(Const {
         at,
         name,
@@ -92,7 +95,9 @@ fn variable_form(alloc: Global, tokens: &mut Cursor<'_>, depth: u32) -> Result<V
         return Ok(VarForm::Collection(spec));
     }
     let spec = spec(alloc, tokens, depth)?;
+    let spec = Held::new(spec);
     let start = started(alloc, tokens, depth)?;
+    let spec = spec.into_inner();
     Ok(VarForm::Typed(spec, start))
 }
 
@@ -123,11 +128,13 @@ pub fn bind(alloc: Global, tokens: &mut Cursor<'_>, depth: u32) -> Result<Bind, 
     let at = tokens.mark();
     tokens.expect(Class::WordBind)?;
     let first = binding(alloc, tokens, depth)?;
+    let first = Held::new(first);
     let mut more = Items::new(alloc);
     while tokens.eat(Class::SignComma) {
         let next = binding(alloc, tokens, depth)?;
         more.push(next)?;
     }
+    let first = first.into_inner();
     Ok(Bind { at, first, more })
 }
 
@@ -204,13 +211,13 @@ impl<S: Fn(Global, &mut Cursor<'_>, u32) -> Result<Start, Stop>> StartReader<S> 
         ensures less { IfOk result (λ _. weight tokens.new ≤ weight tokens.old) }
     {
         let first = self.inner(tokens)?;
+        let first = Boxed::new(self.alloc, first)?;
         let mut more = Items::new(self.alloc);
         while tokens.eat(Class::SignComma) {
             let next = self.inner(tokens)?;
             more.push(next)?;
         }
         tokens.expect(Class::SignRightBracket)?;
-        let first = Boxed::new(self.alloc, first)?;
         Ok((first, more))
     }
 }

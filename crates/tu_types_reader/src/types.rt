@@ -2,17 +2,18 @@ ghost use Rattle.std.specs.Prelude.{◌≡◌, ◌+◌, ◌*◌, ◌<◌, ◌≤
 ghost use Rattle.grammar.specs.Description.{rule};
 ghost use Rattle.grammar.specs.Tree.{n-sequence, n-token};
 ghost use Rattle.tu_token.specs.Rules.{◌⨟◌, t, many, maybe, listed, body, r-base, r-expr, r-field, r-index, r-spec, r-variant};
-ghost use Rattle.tu_token.specs.declared.class.Class.TheVariants.{SignColon, WordEnum, WordOf, WordPointer, WordRecord, WordSet, WordString, WordUnion};
+ghost use Rattle.tu_token.specs.declared.class.Class.TheVariants.{SignColon, WordEnd, WordEnum, WordOf, WordPointer, WordRecord, WordSet, WordString, WordUnion};
 ghost use Rattle.tu_expr.specs.Parts.{any_listing, listing};
 ghost use Rattle.tu_tree.specs.TypeViews.{base_view, fields_view, size_view, sizes, variants_view};
 ghost use Rattle.tu_reader.specs.Ahead.{weight, HasRoom};
 ghost use Rattle.tu_reader.specs.Nests.{Nests};
-ghost use Rattle.tu_reader.specs.Reads.{Reads, Sees};
+ghost use Rattle.tu_reader.specs.Reads.{Adds, Reads, Sees};
 
 use crate::bounds::{index, range};
 use crate::naming::{name, names, optional_name};
 use sqlite_items::{Boxed, Items};
 use std::alloc::Global;
+use tu_base::Held;
 use tu_reader::{Cursor, Stop, expr};
 use tu_tree::{Array, Base, BaseForm, Class, Expr, Field, Spec, StringSize, Variant};
 
@@ -61,12 +62,14 @@ impl<S: Fn(Global, &mut Cursor<'_>, u32) -> Result<Spec, Stop>> TypeReader<S> {
         ensures less { IfOk result (λ _. weight tokens.new ≤ weight tokens.old) }
     {
         let first = index(self.alloc, tokens, self.depth)?;
+        let first = Held::new(first);
         let mut more = Items::new(self.alloc);
         while tokens.eat(Class::SignComma) {
             let next = index(self.alloc, tokens, self.depth)?;
             more.push(next)?;
         }
         tokens.expect(Class::WordOf)?;
+        let first = first.into_inner();
         Ok(Array { first, more })
     }
 
@@ -138,8 +141,9 @@ impl<S: Fn(Global, &mut Cursor<'_>, u32) -> Result<Spec, Stop>> TypeReader<S> {
                 return Ok(StringSize::Open(star));
             }
             let most = expr(self.alloc, tokens, self.depth)?;
+            let most = Boxed::new(self.alloc, most)?;
             tokens.expect(Class::SignRightBracket)?;
-            return Ok(StringSize::Most(Boxed::new(self.alloc, most)?));
+            return Ok(StringSize::Most(most));
         }
         Ok(StringSize::Whole)
     }
@@ -193,10 +197,10 @@ impl<S: Fn(Global, &mut Cursor<'_>, u32) -> Result<Spec, Stop>> TypeReader<S> {
     {
         tokens.skip(Class::WordRecord);
         let first = self.field(tokens)?;
+        let first = Boxed::new(self.alloc, first)?;
         let more = self.more_fields(tokens)?;
-        tokens.expect(Class::WordEnd)?;
-        tokens.expect(Class::WordRecord)?;
-        Ok(BaseForm::Record(Boxed::new(self.alloc, first)?, more))
+        tokens.end(Class::WordRecord)?;
+        Ok(BaseForm::Record(first, more))
     }
 
     fn more_fields(&self, tokens: &mut Cursor<'_>) -> Result<Items<Field>, Stop>
@@ -243,15 +247,27 @@ impl<S: Fn(Global, &mut Cursor<'_>, u32) -> Result<Spec, Stop>> TypeReader<S> {
         let tag = optional_name(self.alloc, tokens)?;
         tokens.expect(Class::SignColon)?;
         let range = range(self.alloc, tokens, self.depth)?;
-        tokens.expect(Class::WordOf)?;
-        let variants = self.variants(tokens)?;
-        tokens.expect(Class::WordEnd)?;
-        tokens.expect(Class::WordUnion)?;
+        let range = Held::new(range);
+        let variants = self.ended_variants(tokens)?;
+        let range = range.into_inner();
         Ok(BaseForm::Union {
             tag,
             range,
             variants,
         })
+    }
+
+    // `of`, the variants, and the end of their union.
+    fn ended_variants(&self, tokens: &mut Cursor<'_>) -> Result<Items<Variant>, Stop>
+        requires nests { Nests r-spec self.now.depth (S.pre self.now.spec) (S.post self.now.spec) }
+        requires room { HasRoom self.now.depth 1 tokens.old }
+        ensures reads { Reads (t WordOf ⨟ (many (rule r-variant) ⨟ (t WordEnd ⨟ t WordUnion))) (λ variants. n-sequence n-token (n-sequence (variants_view variants) (n-sequence n-token n-token))) result tokens.old tokens.new }
+        ensures less { IfOk result (λ _. weight tokens.new ≤ weight tokens.old) }
+    {
+        tokens.expect(Class::WordOf)?;
+        let variants = self.variants(tokens)?;
+        tokens.end(Class::WordUnion)?;
+        Ok(variants)
     }
 
     fn variants(&self, tokens: &mut Cursor<'_>) -> Result<Items<Variant>, Stop>
@@ -293,14 +309,24 @@ impl<S: Fn(Global, &mut Cursor<'_>, u32) -> Result<Spec, Stop>> TypeReader<S> {
             tokens.skip(Class::SignColon);
             return Ok(labels);
         }
-        let first = expr(self.alloc, tokens, self.depth)?;
-        labels.push(first)?;
+        self.add_label(tokens, &mut labels)?;
         while tokens.eat(Class::SignComma) {
-            let next = expr(self.alloc, tokens, self.depth)?;
-            labels.push(next)?;
+            self.add_label(tokens, &mut labels)?;
         }
         tokens.expect(Class::SignColon)?;
         Ok(labels)
+    }
+
+    // A label, behind others.
+    fn add_label(&self, tokens: &mut Cursor<'_>, labels: &mut Items<Expr>) -> Result<(), Stop>
+        requires nests { Nests r-spec self.now.depth (S.pre self.now.spec) (S.post self.now.spec) }
+        requires room { HasRoom self.now.depth 24 tokens.old }
+        ensures adds { Adds r-expr result labels.old labels.new tokens.old tokens.new }
+        ensures less { IfOk result (λ _. weight tokens.new ≤ weight tokens.old) }
+    {
+        let label = expr(self.alloc, tokens, self.depth)?;
+        labels.push(label)?;
+        Ok(())
     }
 }
 

@@ -1,10 +1,12 @@
-pub mod Tests
-pub mod Numbers
-pub mod Products
+-- for the crates above
 pub mod Outcomes
 pub mod Leaves
 pub mod Sums
 pub mod Multiplied
 pub mod Cells
 pub mod Comparing
-pub mod Growing
+-- of this crate alone
+mod Tests
+mod Numbers
+mod Products
+mod Growing

@@ -1,6 +1,7 @@
 -- What the pieces of code do, and what relations say on words.
 use Rattle.std.specs.Prelude.{◌≡◌, ℕ, ◌+◌, ◌<◌, ◌≤◌, true, Some, ℤ, pos, ◌+ℤ◌, ◌-ℤ◌, ◌*ℤ◌}
 use Rattle.std.specs.Int.{w32, cast_unsigned}
+use Rattle.tu_base.specs.declared.limits.TheConstants.{MOST_INT}
 use Rattle.ir_form.specs.Cells.{Cells, is_open_word, loaded, with_word}
 use Rattle.ir_form.specs.Meaning.{run_list}
 use Rattle.ir_form.specs.Place.{Setting}
@@ -28,7 +29,7 @@ abbrev pub FixedAreGiven : Type 0
 FixedAreGiven = (g : Setting) (calls : Calls) (n : ℕ) (st : State) (c : ℕ) → GivesFixed n st c (run_list g calls (fixed_code n) st c)
 
 abbrev pub LiteralMeets : Type 0
-LiteralMeets = (g : Setting) (calls : Calls) (number line n : ℕ) (st : State) (c : ℕ) → number ≤ 2147483647 → Meets line n n 5 (Gives (Int (pos number))) st c (run_list g calls (literal_code number n) st c)
+LiteralMeets = (g : Setting) (calls : Calls) (number line n : ℕ) (st : State) (c : ℕ) → number ≤ MOST_INT → Meets line n n 5 (Gives (Int (pos number))) st c (run_list g calls (literal_code number n) st c)
 
 -- the word of a value is one of 32 bits
 abbrev pub WordsFit : Type 0
@@ -61,10 +62,10 @@ abbrev pub ProductMeets : Type 0
 ProductMeets = (g : Setting) (calls : Calls) (k : Fixed) (x y : ℤ) (line left right n : ℕ) (st : State) (c : ℕ) → HasFixed k n st → HasInt x left n st → HasInt y right n st → Meets line n (n + 6) 97 (exact (x *ℤ y)) st c (run_list g calls (product_code k line left right n) st c)
 
 abbrev pub MoreMeets : Type 0
-MoreMeets = (g : Setting) (calls : Calls) (x : ℤ) (line left number n : ℕ) (st : State) (c : ℕ) → HasInt x left n st → number ≤ 2147483647 → Meets line n (n + 1) 34 (exact (x +ℤ pos number)) st c (run_list g calls (more_code line left number n) st c)
+MoreMeets = (g : Setting) (calls : Calls) (x : ℤ) (line left number n : ℕ) (st : State) (c : ℕ) → HasInt x left n st → number ≤ MOST_INT → Meets line n (n + 1) 34 (exact (x +ℤ pos number)) st c (run_list g calls (more_code line left number n) st c)
 
 abbrev pub LessMeets : Type 0
-LessMeets = (g : Setting) (calls : Calls) (x : ℤ) (line left number n : ℕ) (st : State) (c : ℕ) → HasInt x left n st → number ≤ 2147483647 → Meets line n (n + 1) 34 (exact (x -ℤ pos number)) st c (run_list g calls (less_code line left number n) st c)
+LessMeets = (g : Setting) (calls : Calls) (x : ℤ) (line left number n : ℕ) (st : State) (c : ℕ) → HasInt x left n st → number ≤ MOST_INT → Meets line n (n + 1) 34 (exact (x -ℤ pos number)) st c (run_list g calls (less_code line left number n) st c)
 
 -- what a relation says of two ints is what its comparison says of their words
 abbrev pub RelationsHold : Type 0

@@ -1,12 +1,13 @@
 -- Which word stands for a value, in memory and in region code.
 use Rattle.std.specs.Prelude.{ℕ, ◌+◌, ◌-◌, IsTrue, if◌then◌else◌, ℤ, pos, negsuc}
+use Rattle.tu_base.specs.declared.limits.TheConstants.{MOST_INT}
 use Rattle.tu_meaning.specs.Values.{Value, Unset, Int, Truth}
 use Rattle.tu_meaning.specs.Operators.{is_int}
 
 -- The number and 2^31. So the order of ints is that of their words, and no int has the word 0.
 abbrev pub word_of_int : ℤ → ℕ
 word_of_int (pos n) = 2147483648 + n
-word_of_int (negsuc n) = 2147483647 - n
+word_of_int (negsuc n) = MOST_INT - n
 
 -- Memory is zero at the start, so 0 stands for what was not stored.
 abbrev pub word_of : Value → ℕ

@@ -1,4 +1,5 @@
 ghost use Rattle.std.specs.Prelude.{◌≡◌, ◌+◌, ◌<◌, ◌≤◌, IfOk, OnOk};
+ghost use Rattle.tu_base.specs.declared.limits.TheConstants.{MOST_INT};
 ghost use Rattle.tu_base.specs.declared.kind.Kind.TheVariants.{Overflow};
 ghost use Rattle.ir_code.specs.Pieces.{raise_unless, with_op};
 ghost use Rattle.tu_value.specs.Pieces.{difference_code, fetch_code, fixed_code, fixed_from, less_code, literal_code, more_code, number_code, product_code, store_code, sum_code, unset_code, with_piece};
@@ -33,7 +34,7 @@ pub fn fixed_values(code: &mut Code) -> Result<Fixed, Memory>
 /// Appends an int as it is written in the program.
 pub fn literal(code: &mut Code, number: u32) -> Result<u32, Memory>
     requires room { code.old.next < 4294967295 }
-    requires small { number ≤ 2147483647 }
+    requires small { number ≤ MOST_INT }
     ensures appended { OnOk result
         (code.new ≡ with_piece code.old (literal_code number code.old.next) 1) }
     ensures value { IfOk result (λ value. value ≡ code.old.next) }

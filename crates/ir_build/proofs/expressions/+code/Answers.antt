@@ -1,39 +1,11 @@
-use Rattle.std.proofs.Common.{◌≡◌, ◌+◌, ◌*◌, ◌<◌, drop, ap, sym, subst, ◌∙◌, rules, arith}
-use Rattle.std.specs.Prelude.{IfOk}
+use Rattle.std.proofs.Common.{◌≡◌, ◌+◌, ◌*◌, ◌<◌, drop, ap, sym, ◌∙◌, rules, arith}
 use Rattle.std.proofs.lemmas.Grind.{common_steps}
-use Rattle.std.proofs.lemmas.Result.{on_ok_weaker}
 use Rattle.grammar.specs.Tree.{height}
 use Rattle.tu_expr.specs.declared.expr.Multiplication.TheVariants.{Times}
 use Rattle.tu_expr.specs.Views.{multiplied, multiplied_view, signed, signed_view}
-use Rattle.ir_build.specs.Code.{times, code_expr, code_terms, code_factors, code_prefix, code_primary}
-use Rattle.ir_build.specs.Levels.{made}
-use Rattle.ir_build.specs.Tokens.{tokens_in}
-use Rattle.ir_build.proofs.Operands.{terms, factors, lies_in, terms_at, tokens_at, factors_at, factor_tokens_at, path_alone, brackets_alone}
+use Rattle.ir_build.specs.Code.{made, times, code_terms, code_factors, code_prefix}
+use Rattle.ir_build.proofs.Operands.{terms, factors, lies_in, terms_at, tokens_at, factors_at, factor_tokens_at}
 use Rattle.ir_build.proofs.expressions.+code.Goals as goal
-
-pub factor-variable-requires : goal.factor-variable-requires
-factor-variable-requires t c =
-    let path = c.in-Path.path in
-    let is = path_alone c.in-Some.primary.now _ c.primary.inside.form path c.primary.view_is c.in-Path.is in
-    omega (arith, c.requires, c.in-Some.ensures.is.tokens, ap tokens_in is)
-
-pub factor-returns-in-Path-clause-made : goal.factor-returns-in-Path-clause-made
-factor-returns-in-Path-clause-made t c =
-    let is = path_alone c.in-Some.primary.now _ c.primary.inside.form c.in-Path.path c.primary.view_is c.in-Path.is in
-    let same = ap (λ z. code_primary c.args.environment.now.fixed c.args.environment.now.names.now c.args.line z c.args.code.now) is ∙ sym (c.in-Some.ensures.is.value c.args.environment.now.fixed c.args.environment.now.names.now c.args.line c.args.code.now) in
-    subst (λ z. IfOk c.variable.result (λ value. made c.variable.new.code value ≡ z)) same c.variable.ensures.made
-
-pub factor-returns-in-Path-clause-next : goal.factor-returns-in-Path-clause-next
-factor-returns-in-Path-clause-next t c =
-    let is = path_alone c.in-Some.primary.now _ c.primary.inside.form c.in-Path.path c.primary.view_is c.in-Path.is in
-    on_ok_weaker c.variable.result (λ h. omega (arith, h, c.in-Some.ensures.is.tokens, ap tokens_in is)) c.variable.ensures.next
-
-pub factor-returns-in-Brackets-clause-made : goal.factor-returns-in-Brackets-clause-made
-factor-returns-in-Brackets-clause-made t c =
-    let is = brackets_alone c.in-Some.primary.now _ c.primary.inside.form c.in-Brackets.inner c.primary.view_is c.in-Brackets.is in
-    let same = ap (λ z. code_expr c.args.environment.now.fixed c.args.environment.now.names.now c.args.line z c.args.code.now) c.get.ensures
-    ∙ (ap (λ z. code_primary c.args.environment.now.fixed c.args.environment.now.names.now c.args.line z c.args.code.now) is ∙ sym (c.in-Some.ensures.is.value c.args.environment.now.fixed c.args.environment.now.names.now c.args.line c.args.code.now)) in
-    subst (λ z. IfOk c.expression.result (λ value. made c.expression.new.code value ≡ z)) same c.expression.ensures.made
 
 pub factors-loop-operator-preserved : goal.factors-loop-operator-preserved
 factors-loop-operator-preserved t c =

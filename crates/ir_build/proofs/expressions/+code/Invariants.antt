@@ -1,6 +1,5 @@
 use Rattle.std.proofs.Common.{◌≡◌, ◌+◌, ◌*◌, ◌≤◌, drop}
-use Rattle.ir_build.specs.Code.{code_sum, code_terms, code_term, code_factors}
-use Rattle.ir_build.specs.Levels.{made}
+use Rattle.ir_build.specs.Code.{made, code_sum, code_terms, code_term, code_factors}
 use Rattle.ir_build.specs.Tokens.{tokens_in}
 use Rattle.ir_build.proofs.Operands.{terms, factors}
 use Rattle.ir_build.proofs.expressions.+code.Given as goal

@@ -1,8 +1,7 @@
 use Rattle.std.proofs.Common.{◌≡◌, ap, subst, ◌∙◌}
 use Rattle.std.specs.Prelude.{OnOk}
 use Rattle.ir_build.proofs.Operators.{fails}
-use Rattle.ir_build.specs.Code.{named}
-use Rattle.ir_build.specs.Levels.{made}
+use Rattle.ir_build.specs.Code.{made, named}
 use Rattle.ir_stmt.specs.Code.{stored}
 use Rattle.ir_stmt.specs.Made.{assigned}
 use Rattle.ir_stmt.proofs.Assigning.{steps_more, root_alone}

@@ -1,6 +1,5 @@
 use Rattle.std.proofs.Common.{◌≡◌, ◌∙◌, ap, sym, true}
-use Rattle.tu_check.specs.Built.{are_times, unbuilt, unbuilt_term, unbuilt_prefix}
-use Rattle.tu_check.proofs.Levels.{brackets_alone}
+use Rattle.tu_check.specs.Built.{are_times, unbuilt_term, unbuilt_prefix}
 use Rattle.tu_check.proofs.Lists.{factors, found, passed, none_found, sum_first, term_first}
 use Rattle.tu_check.proofs.values.+built.Goals as goal
 
@@ -33,8 +32,3 @@ unbuilt_term-returns t c =
     let all : are_times (factors c.as_slice-factor-items.result.now) ≡ true = ap (λ l. are_times (factors l)) (c.as_slice-factor-items.ensures ∙ sym c.as_slice.ensures) ∙ (sym c.are_times.ensures ∙ c.if-not-are_times.false) in
     sym (term_first c.args.declared.now c.args.term.now _ c.term.inside.first c.term.inside.more c.as_slice-factor-items.result.now c.term.view_is c.as_slice-factor-items.ensures all (sym c.in_default.ensures)
     ∙ none_found (λ x. unbuilt_prefix c.args.declared.now x.1) c.as_slice-factor-items.result.now c.loop-factor.factor-index c.loop-factor.invariant c.loop-factor-test.false)
-
-pub unbuilt_prefix-returns-in-Brackets : goal.unbuilt_prefix-returns-in-Brackets
-unbuilt_prefix-returns-in-Brackets t c =
-    c.unbuilt.ensures ∙ (ap (unbuilt c.args.declared.now) c.get.ensures
-    ∙ sym (c.in-Ok.ensures.unbuilt c.args.declared.now ∙ brackets_alone c.args.declared.now c.in-Ok.primary.now _ c.primary.inside.form c.in-Brackets.inner c.primary.view_is c.in-Brackets.is))

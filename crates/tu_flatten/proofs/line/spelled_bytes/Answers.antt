@@ -1,7 +1,7 @@
 use Rattle.std.proofs.Common.{◌≡◌, ◌+◌, ◌≤◌, ℕ, min, arith}
 use Rattle.std.proofs.lemmas.List.{at_drop_all}
 use Rattle.tu_token.specs.ClassNumbers.{lexemes}
-use Rattle.tu_flatten_parts.specs.Spellings.{bytes_of}
+use Rattle.tu_token.specs.Spellings.{bytes_of}
 use Rattle.tu_flatten.proofs.Lines.{none_more}
 use Rattle.tu_flatten.proofs.line.spelled_bytes.Goals as goal
 

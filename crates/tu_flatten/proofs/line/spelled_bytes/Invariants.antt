@@ -1,6 +1,6 @@
 use Rattle.std.proofs.Common.{◌≡◌, ◌+◌, ◌≤◌, min, drop}
 use Rattle.tu_token.specs.ClassNumbers.{lexemes}
-use Rattle.tu_flatten_parts.specs.Spellings.{bytes_of}
+use Rattle.tu_token.specs.Spellings.{bytes_of}
 use Rattle.tu_flatten.proofs.line.spelled_bytes.Given as goal
 
 abbrev pub invariant-loop-token : goal.invariant-loop-token

@@ -1,10 +1,14 @@
+use Rattle.std.proofs.Common.{refl}
+use Rattle.grammar.specs.Classes.{is_among}
+use Rattle.grammar.specs.Grammar.{first}
+use Rattle.tu_token.specs.ClassNumbers.{number}
+use Rattle.tu_token.specs.Table.{table}
+use Rattle.tu_tree.specs.StatementViews.{block_part}
 use Rattle.tu_reader.proofs.Choices.{none_starts, some_starts}
-use Rattle.tu_parse.specs.Beginnings.{begins_block_part}
-use Rattle.tu_parse.proofs.Starts.{of_block_part}
 use Rattle.tu_parse.proofs.blocks.goes_on.Goals as goal
 
 pub returns-in-Some : goal.returns-in-Some
-returns-in-Some c = some_starts begins_block_part of_block_part c.in-Some.ensures c.begins_block_part.ensures
+returns-in-Some c = some_starts (λ k. is_among (number k) (first table block_part)) (λ k. refl) c.in-Some.ensures c.begins_block_part.ensures
 
 pub returns-in-None : goal.returns-in-None
 returns-in-None c = none_starts c.in-None.ensures _

@@ -36,11 +36,11 @@ returns-in_ok-part-in_default-class-clause-reads c = right_takes refl refl (righ
 pub returns-in_err-part-in-WordForward-clause-reads : goal.returns-in_err-part-in-WordForward-clause-reads
 returns-in_err-part-in-WordForward-clause-reads c = exits _ _ _ _ c.from_residual-in_err-part-in-WordForward.ensures.1 (item_stops c.in-Some.ensures c.in-WordForward.is c.in_err-part-in-WordForward.ensures.reads)
 
-pub returns-in_ok-new-in-WordForward-clause-reads : goal.returns-in_ok-new-in-WordForward-clause-reads
-returns-in_ok-new-in-WordForward-clause-reads c = rw c.in_ok-new-in-WordForward.ensures (right_takes refl refl (right_takes refl refl (right_takes refl refl (left_takes refl c.in_ok-part-in-WordForward.ensures.reads))))
+pub returns-in_ok-part-in-WordForward-clause-reads : goal.returns-in_ok-part-in-WordForward-clause-reads
+returns-in_ok-part-in-WordForward-clause-reads c = (right_takes refl refl (right_takes refl refl (right_takes refl refl (left_takes refl c.in_ok-part-in-WordForward.ensures.reads))))
 
 pub returns-in_err-part-in-WordModule-clause-reads : goal.returns-in_err-part-in-WordModule-clause-reads
 returns-in_err-part-in-WordModule-clause-reads c = exits _ _ _ _ c.from_residual-in_err-part-in-WordModule.ensures.1 (choice_stops (is_at c.in-Some.ensures c.in-WordModule.is) (body r-item) c.in_err-part-in-WordModule.ensures.reads)
 
-pub returns-in_ok-new-in-WordModule-clause-reads : goal.returns-in_ok-new-in-WordModule-clause-reads
-returns-in_ok-new-in-WordModule-clause-reads c = rw c.in_ok-new-in-WordModule.ensures (choice_takes (is_at c.in-Some.ensures c.in-WordModule.is) (body r-item) _ c.in_ok-part-in-WordModule.ensures.reads)
+pub returns-in_ok-part-in-WordModule-clause-reads : goal.returns-in_ok-part-in-WordModule-clause-reads
+returns-in_ok-part-in-WordModule-clause-reads c = (choice_takes (is_at c.in-Some.ensures c.in-WordModule.is) (body r-item) _ c.in_ok-part-in-WordModule.ensures.reads)

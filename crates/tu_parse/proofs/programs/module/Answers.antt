@@ -12,13 +12,7 @@ pub returns-in_err-import-clause-reads : goal.returns-in_err-import-clause-reads
 returns-in_err-import-clause-reads c = exits _ _ _ _ c.from_residual-in_err-import.ensures.1 (rule_stops c.mark-at.ensures.marks (c.in_ok-expect.ensures.reads ▹ c.in_ok-name.ensures.reads ▹ first_stops c.in_err-import.ensures.reads))
 
 pub returns-in_err-export-clause-reads : goal.returns-in_err-export-clause-reads
-returns-in_err-export-clause-reads c = exits _ _ _ _ c.from_residual-in_err-export.ensures.1 (rule_stops c.mark-at.ensures.marks (c.in_ok-expect.ensures.reads ▹ c.in_ok-name.ensures.reads ▹ c.in_ok-import.ensures.reads ▹ first_stops c.in_err-export.ensures.reads))
-
-pub returns-in_err-parts-clause-reads : goal.returns-in_err-parts-clause-reads
-returns-in_err-parts-clause-reads c = exits _ _ _ _ c.from_residual-in_err-parts.ensures.1 (rule_stops c.mark-at.ensures.marks (c.in_ok-expect.ensures.reads ▹ c.in_ok-name.ensures.reads ▹ c.in_ok-import.ensures.reads ▹ c.in_ok-export.ensures.reads ▹ first_stops c.in_err-parts.ensures.reads))
-
-pub returns-in_err-ending-clause-reads : goal.returns-in_err-ending-clause-reads
-returns-in_err-ending-clause-reads c = exits _ _ _ _ c.from_residual-in_err-ending.ensures.1 (rule_stops c.mark-at.ensures.marks (c.in_ok-expect.ensures.reads ▹ c.in_ok-name.ensures.reads ▹ c.in_ok-import.ensures.reads ▹ c.in_ok-export.ensures.reads ▹ c.in_ok-parts.ensures.reads ▹ c.in_err-ending.ensures.reads))
+returns-in_err-export-clause-reads c = exits _ _ _ _ c.from_residual-in_err-export.ensures.1 (rule_stops c.mark-at.ensures.marks (c.in_ok-expect.ensures.reads ▹ c.in_ok-name.ensures.reads ▹ c.in_ok-import.ensures.reads ▹ c.in_err-export.ensures.reads))
 
 pub returns-clause-reads : goal.returns-clause-reads
-returns-clause-reads c = rule_takes refl c.mark-at.ensures.marks (c.in_ok-expect.ensures.reads ▸ c.in_ok-name.ensures.reads ▸ c.in_ok-import.ensures.reads ▸ c.in_ok-export.ensures.reads ▸ c.in_ok-parts.ensures.reads ▸ c.in_ok-ending.ensures.reads)
+returns-clause-reads c = rule_takes refl c.mark-at.ensures.marks (c.in_ok-expect.ensures.reads ▸ c.in_ok-name.ensures.reads ▸ c.in_ok-import.ensures.reads ▸ c.in_ok-export.ensures.reads)

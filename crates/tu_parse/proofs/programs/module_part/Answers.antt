@@ -36,8 +36,8 @@ returns-in_ok-part-in_default-class-clause-reads c = right_takes refl refl (righ
 pub returns-in_err-part-in-WordForward-clause-reads : goal.returns-in_err-part-in-WordForward-clause-reads
 returns-in_err-part-in-WordForward-clause-reads c = exits _ _ _ _ c.from_residual-in_err-part-in-WordForward.ensures.1 (module_part_stops c.in-Some.ensures c.in-WordForward.is c.in_err-part-in-WordForward.ensures.reads)
 
-pub returns-in_ok-new-in-WordForward-clause-reads : goal.returns-in_ok-new-in-WordForward-clause-reads
-returns-in_ok-new-in-WordForward-clause-reads c = rw c.in_ok-new-in-WordForward.ensures (right_takes refl refl (right_takes refl refl (right_takes refl refl (left_takes refl c.in_ok-part-in-WordForward.ensures.reads))))
+pub returns-in_ok-part-in-WordForward-clause-reads : goal.returns-in_ok-part-in-WordForward-clause-reads
+returns-in_ok-part-in-WordForward-clause-reads c = (right_takes refl refl (right_takes refl refl (right_takes refl refl (left_takes refl c.in_ok-part-in-WordForward.ensures.reads))))
 
 pub returns-in_err-part-in-WordInvariant-clause-reads : goal.returns-in_err-part-in-WordInvariant-clause-reads
 returns-in_err-part-in-WordInvariant-clause-reads c = exits _ _ _ _ c.from_residual-in_err-part-in-WordInvariant.ensures.1 (choice_stops (is_at c.in-Some.ensures c.in-WordInvariant.is) module_part c.in_err-part-in-WordInvariant.ensures.reads)

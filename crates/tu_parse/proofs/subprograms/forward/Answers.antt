@@ -11,4 +11,4 @@ pub returns-in_err-import-clause-reads : goal.returns-in_err-import-clause-reads
 returns-in_err-import-clause-reads c = exits _ _ _ _ c.from_residual-in_err-import.ensures.1 (choice_stops (seen_at {k = WordForward} c.requires.seen) (body r-subprogram) (c.skip.ensures.takes ▹ c.in_ok-head.ensures.reads ▹ c.in_err-import.ensures.reads))
 
 pub returns-clause-reads : goal.returns-clause-reads
-returns-clause-reads c = choice_takes (seen_at {k = WordForward} c.requires.seen) (body r-subprogram) _ (c.skip.ensures.takes ▸ c.in_ok-head.ensures.reads ▸ c.in_ok-import.ensures.reads)
+returns-clause-reads c = rw (c.into_inner-head.ensures, c.new-head.ensures) (choice_takes (seen_at {k = WordForward} c.requires.seen) (body r-subprogram) _ (c.skip.ensures.takes ▸ c.in_ok-head.ensures.reads ▸ c.in_ok-import.ensures.reads))

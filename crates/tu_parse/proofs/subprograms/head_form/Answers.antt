@@ -21,13 +21,7 @@ pub returns-in_err-formals-2-clause-reads : goal.returns-in_err-formals-2-clause
 returns-in_err-formals-2-clause-reads c = exits _ _ _ _ c.from_residual-in_err-formals-2.ensures.1 (right_stops c.if-sees.ensures (c.in_ok-expect.ensures.reads ▹ (c.in_ok-name-2.ensures.reads ▹ first_stops c.in_err-formals-2.ensures.reads)))
 
 pub returns-in_err-result-clause-reads : goal.returns-in_err-result-clause-reads
-returns-in_err-result-clause-reads c = exits _ _ _ _ c.from_residual-in_err-result.ensures.1 (right_stops c.if-sees.ensures (c.in_ok-expect.ensures.reads ▹ (c.in_ok-name-2.ensures.reads ▹ (c.in_ok-formals-2.ensures.reads ▹ first_stops c.in_err-result.ensures.reads))))
-
-pub returns-in_err-expect-2-clause-reads : goal.returns-in_err-expect-2-clause-reads
-returns-in_err-expect-2-clause-reads c = exits _ _ _ _ c.from_residual-in_err-expect-2.ensures.1 (right_stops c.if-sees.ensures (c.in_ok-expect.ensures.reads ▹ (c.in_ok-name-2.ensures.reads ▹ (c.in_ok-formals-2.ensures.reads ▹ (c.in_ok-result.ensures.reads ▹ first_stops c.in_err-expect-2.ensures.reads)))))
-
-pub returns-in_err-spec-clause-reads : goal.returns-in_err-spec-clause-reads
-returns-in_err-spec-clause-reads c = exits _ _ _ _ c.from_residual-in_err-spec.ensures.1 (right_stops c.if-sees.ensures (c.in_ok-expect.ensures.reads ▹ (c.in_ok-name-2.ensures.reads ▹ (c.in_ok-formals-2.ensures.reads ▹ (c.in_ok-result.ensures.reads ▹ (c.in_ok-expect-2.ensures.reads ▹ c.in_err-spec.ensures.reads))))))
+returns-in_err-result-clause-reads c = exits _ _ _ _ c.from_residual-in_err-result.ensures.1 (right_stops c.if-sees.ensures (c.in_ok-expect.ensures.reads ▹ (c.in_ok-name-2.ensures.reads ▹ (c.in_ok-formals-2.ensures.reads ▹ c.in_err-result.ensures.reads))))
 
 pub returns-clause-reads : goal.returns-clause-reads
-returns-clause-reads c = right_takes refl refl (c.in_ok-expect.ensures.reads ▸ (c.in_ok-name-2.ensures.reads ▸ (c.in_ok-formals-2.ensures.reads ▸ (c.in_ok-result.ensures.reads ▸ (c.in_ok-expect-2.ensures.reads ▸ c.in_ok-spec.ensures.reads)))))
+returns-clause-reads c = right_takes refl refl (c.in_ok-expect.ensures.reads ▸ (c.in_ok-name-2.ensures.reads ▸ (c.in_ok-formals-2.ensures.reads ▸ c.in_ok-result.ensures.reads)))

@@ -11,11 +11,8 @@ returns-in_err-givens-clause-reads c = exits _ _ _ _ c.from_residual-in_err-give
 pub returns-in_err-post-clause-reads : goal.returns-in_err-post-clause-reads
 returns-in_err-post-clause-reads c = exits _ _ _ _ c.from_residual-in_err-post.ensures.1 (rule_stops c.mark-at.ensures.marks (c.in_ok-pre.ensures.reads ▹ c.in_ok-givens.ensures.reads ▹ first_stops c.in_err-post.ensures.reads))
 
-pub returns-in_err-block-clause-reads : goal.returns-in_err-block-clause-reads
-returns-in_err-block-clause-reads c = exits _ _ _ _ c.from_residual-in_err-block.ensures.1 (rule_stops c.mark-at.ensures.marks (c.in_ok-pre.ensures.reads ▹ c.in_ok-givens.ensures.reads ▹ c.in_ok-post.ensures.reads ▹ first_stops c.in_err-block.ensures.reads))
-
-pub returns-in_err-ending-clause-reads : goal.returns-in_err-ending-clause-reads
-returns-in_err-ending-clause-reads c = exits _ _ _ _ c.from_residual-in_err-ending.ensures.1 (rule_stops c.mark-at.ensures.marks (c.in_ok-pre.ensures.reads ▹ c.in_ok-givens.ensures.reads ▹ c.in_ok-post.ensures.reads ▹ c.in_ok-block.ensures.reads ▹ c.in_err-ending.ensures.reads))
+pub returns-in_err-handler-clause-reads : goal.returns-in_err-handler-clause-reads
+returns-in_err-handler-clause-reads c = exits _ _ _ _ c.from_residual-in_err-handler.ensures.1 (rule_stops c.mark-at.ensures.marks (c.in_ok-pre.ensures.reads ▹ c.in_ok-givens.ensures.reads ▹ c.in_ok-post.ensures.reads ▹ c.in_err-handler.ensures.reads))
 
 pub returns-clause-reads : goal.returns-clause-reads
-returns-clause-reads c = rule_takes refl c.mark-at.ensures.marks (c.in_ok-pre.ensures.reads ▸ c.in_ok-givens.ensures.reads ▸ c.in_ok-post.ensures.reads ▸ c.in_ok-block.ensures.reads ▸ c.in_ok-ending.ensures.reads)
+returns-clause-reads c = rw (c.into_inner-givens.ensures, c.new-givens.ensures) (rule_takes refl c.mark-at.ensures.marks (c.in_ok-pre.ensures.reads ▸ c.in_ok-givens.ensures.reads ▸ c.in_ok-post.ensures.reads ▸ c.in_ok-handler.ensures.reads))

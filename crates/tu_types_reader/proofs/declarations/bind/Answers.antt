@@ -18,4 +18,4 @@ pub loop-alloc-preserved : goal.loop-alloc-preserved
 loop-alloc-preserved c = (turns_more c.in_ok-push.ensures.ok refl c.loop-alloc.invariant.0 (c.loop-alloc-test.ensures.eats.1 ▸ c.in_ok-next.ensures.reads), omega (arith, c.loop-alloc.invariant.1, c.loop-alloc-test.ensures.less, c.in_ok-next.ensures.less))
 
 pub returns-clause-reads : goal.returns-clause-reads
-returns-clause-reads c = rule_takes refl c.mark-at.ensures.marks (c.in_ok-expect.ensures.reads ▸ ((c.in_ok-first.ensures.reads ▸ turns_end refl c.loop-alloc.invariant.0 c.loop-alloc-test.ensures.eats.0 c.loop-alloc-test.ensures.eats.1)))
+returns-clause-reads c = rw (c.into_inner-first.ensures, c.new-first.ensures) (rule_takes refl c.mark-at.ensures.marks (c.in_ok-expect.ensures.reads ▸ ((c.in_ok-first.ensures.reads ▸ turns_end refl c.loop-alloc.invariant.0 c.loop-alloc-test.ensures.eats.0 c.loop-alloc-test.ensures.eats.1))))

@@ -18,4 +18,4 @@ pub returns-in_err-start-clause-reads : goal.returns-in_err-start-clause-reads
 returns-in_err-start-clause-reads c = exits _ _ _ _ c.from_residual-in_err-start.ensures.1 (rule_stops c.mark-at.ensures.marks (c.in_ok-expect.ensures.reads ▹ c.in_ok-name.ensures.reads ▹ c.in_ok-spec.ensures.reads ▹ c.in_ok-expect-2.ensures.reads ▹ c.in_err-start.ensures.reads))
 
 pub returns-clause-reads : goal.returns-clause-reads
-returns-clause-reads c = rule_takes refl c.mark-at.ensures.marks (c.in_ok-expect.ensures.reads ▸ c.in_ok-name.ensures.reads ▸ c.in_ok-spec.ensures.reads ▸ c.in_ok-expect-2.ensures.reads ▸ c.in_ok-start.ensures.reads)
+returns-clause-reads c = rw (c.into_inner-spec.ensures, c.new-spec.ensures) (rule_takes refl c.mark-at.ensures.marks (c.in_ok-expect.ensures.reads ▸ c.in_ok-name.ensures.reads ▸ c.in_ok-spec.ensures.reads ▸ c.in_ok-expect-2.ensures.reads ▸ c.in_ok-start.ensures.reads))

@@ -30,4 +30,4 @@ pub returns-in_err-start-clause-reads : goal.returns-in_err-start-clause-reads
 returns-in_err-start-clause-reads c = exits _ _ _ _ c.from_residual-in_err-start.ensures.1 (otherwise_stops refl refl c.if-sees.ensures (c.in_ok-expect.ensures.reads ▹ right_stops c.if-sees-2.ensures (c.in_ok-spec-2.ensures.reads ▹ c.in_err-start.ensures.reads)))
 
 pub returns-clause-reads : goal.returns-clause-reads
-returns-clause-reads c = left_takes refl (c.in_ok-expect.ensures.reads ▸ right_takes refl refl (c.in_ok-spec-2.ensures.reads ▸ c.in_ok-start.ensures.reads))
+returns-clause-reads c = rw (c.into_inner-spec.ensures, c.new-spec.ensures) (left_takes refl (c.in_ok-expect.ensures.reads ▸ right_takes refl refl (c.in_ok-spec-2.ensures.reads ▸ c.in_ok-start.ensures.reads)))

@@ -11,13 +11,7 @@ pub returns-in_err-expect-clause-reads : goal.returns-in_err-expect-clause-reads
 returns-in_err-expect-clause-reads g c = exits _ _ _ _ c.from_residual-in_err-expect.ensures.1 (choice_stops (seen_at {k = WordCase} c.requires.seen) (body r-statement) (c.skip.ensures.takes ▹ c.in_ok-subject.ensures.reads ▹ first_stops c.in_err-expect.ensures.reads))
 
 pub returns-in_err-arms-clause-reads : goal.returns-in_err-arms-clause-reads
-returns-in_err-arms-clause-reads g c = exits _ _ _ _ c.from_residual-in_err-arms.ensures.1 (choice_stops (seen_at {k = WordCase} c.requires.seen) (body r-statement) (c.skip.ensures.takes ▹ c.in_ok-subject.ensures.reads ▹ c.in_ok-expect.ensures.reads ▹ first_stops c.in_err-arms.ensures.reads))
-
-pub returns-in_err-expect-2-clause-reads : goal.returns-in_err-expect-2-clause-reads
-returns-in_err-expect-2-clause-reads g c = exits _ _ _ _ c.from_residual-in_err-expect-2.ensures.1 (choice_stops (seen_at {k = WordCase} c.requires.seen) (body r-statement) (c.skip.ensures.takes ▹ c.in_ok-subject.ensures.reads ▹ c.in_ok-expect.ensures.reads ▹ c.in_ok-arms.ensures.reads ▹ first_stops c.in_err-expect-2.ensures.reads))
-
-pub returns-in_err-expect-3-clause-reads : goal.returns-in_err-expect-3-clause-reads
-returns-in_err-expect-3-clause-reads g c = exits _ _ _ _ c.from_residual-in_err-expect-3.ensures.1 (choice_stops (seen_at {k = WordCase} c.requires.seen) (body r-statement) (c.skip.ensures.takes ▹ c.in_ok-subject.ensures.reads ▹ c.in_ok-expect.ensures.reads ▹ c.in_ok-arms.ensures.reads ▹ c.in_ok-expect-2.ensures.reads ▹ c.in_err-expect-3.ensures.reads))
+returns-in_err-arms-clause-reads g c = exits _ _ _ _ c.from_residual-in_err-arms.ensures.1 (choice_stops (seen_at {k = WordCase} c.requires.seen) (body r-statement) (c.skip.ensures.takes ▹ c.in_ok-subject.ensures.reads ▹ c.in_ok-expect.ensures.reads ▹ c.in_err-arms.ensures.reads))
 
 pub returns-clause-reads : goal.returns-clause-reads
-returns-clause-reads g c = rw (c.in_ok-new.ensures) (choice_takes (seen_at {k = WordCase} c.requires.seen) (body r-statement) _ (c.skip.ensures.takes ▸ c.in_ok-subject.ensures.reads ▸ c.in_ok-expect.ensures.reads ▸ c.in_ok-arms.ensures.reads ▸ c.in_ok-expect-2.ensures.reads ▸ c.in_ok-expect-3.ensures.reads))
+returns-clause-reads g c = rw (c.in_ok-subject-2.ensures) (choice_takes (seen_at {k = WordCase} c.requires.seen) (body r-statement) _ (c.skip.ensures.takes ▸ c.in_ok-subject.ensures.reads ▸ c.in_ok-expect.ensures.reads ▸ c.in_ok-arms.ensures.reads))

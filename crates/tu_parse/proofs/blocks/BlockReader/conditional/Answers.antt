@@ -14,16 +14,7 @@ pub returns-in_err-block-clause-reads : goal.returns-in_err-block-clause-reads
 returns-in_err-block-clause-reads g c = exits _ _ _ _ c.from_residual-in_err-block.ensures.1 (choice_stops (seen_at {k = WordIf} c.requires.seen) (body r-statement) (c.skip.ensures.takes ▹ c.in_ok-condition.ensures.reads ▹ c.in_ok-expect.ensures.reads ▹ first_stops c.in_err-block.ensures.reads))
 
 pub returns-in_err-elsifs-clause-reads : goal.returns-in_err-elsifs-clause-reads
-returns-in_err-elsifs-clause-reads g c = exits _ _ _ _ c.from_residual-in_err-elsifs.ensures.1 (choice_stops (seen_at {k = WordIf} c.requires.seen) (body r-statement) (c.skip.ensures.takes ▹ c.in_ok-condition.ensures.reads ▹ c.in_ok-expect.ensures.reads ▹ c.in_ok-block.ensures.reads ▹ first_stops c.in_err-elsifs.ensures.reads))
-
-pub returns-in_err-otherwise-clause-reads : goal.returns-in_err-otherwise-clause-reads
-returns-in_err-otherwise-clause-reads g c = exits _ _ _ _ c.from_residual-in_err-otherwise.ensures.1 (choice_stops (seen_at {k = WordIf} c.requires.seen) (body r-statement) (c.skip.ensures.takes ▹ c.in_ok-condition.ensures.reads ▹ c.in_ok-expect.ensures.reads ▹ c.in_ok-block.ensures.reads ▹ c.in_ok-elsifs.ensures.reads ▹ first_stops c.in_err-otherwise.ensures.reads))
-
-pub returns-in_err-expect-2-clause-reads : goal.returns-in_err-expect-2-clause-reads
-returns-in_err-expect-2-clause-reads g c = exits _ _ _ _ c.from_residual-in_err-expect-2.ensures.1 (choice_stops (seen_at {k = WordIf} c.requires.seen) (body r-statement) (c.skip.ensures.takes ▹ c.in_ok-condition.ensures.reads ▹ c.in_ok-expect.ensures.reads ▹ c.in_ok-block.ensures.reads ▹ c.in_ok-elsifs.ensures.reads ▹ c.in_ok-otherwise.ensures.reads ▹ first_stops c.in_err-expect-2.ensures.reads))
-
-pub returns-in_err-expect-3-clause-reads : goal.returns-in_err-expect-3-clause-reads
-returns-in_err-expect-3-clause-reads g c = exits _ _ _ _ c.from_residual-in_err-expect-3.ensures.1 (choice_stops (seen_at {k = WordIf} c.requires.seen) (body r-statement) (c.skip.ensures.takes ▹ c.in_ok-condition.ensures.reads ▹ c.in_ok-expect.ensures.reads ▹ c.in_ok-block.ensures.reads ▹ c.in_ok-elsifs.ensures.reads ▹ c.in_ok-otherwise.ensures.reads ▹ c.in_ok-expect-2.ensures.reads ▹ c.in_err-expect-3.ensures.reads))
+returns-in_err-elsifs-clause-reads g c = exits _ _ _ _ c.from_residual-in_err-elsifs.ensures.1 (choice_stops (seen_at {k = WordIf} c.requires.seen) (body r-statement) (c.skip.ensures.takes ▹ c.in_ok-condition.ensures.reads ▹ c.in_ok-expect.ensures.reads ▹ c.in_ok-block.ensures.reads ▹ c.in_err-elsifs.ensures.reads))
 
 pub returns-clause-reads : goal.returns-clause-reads
-returns-clause-reads g c = rw (c.in_ok-new.ensures) (choice_takes (seen_at {k = WordIf} c.requires.seen) (body r-statement) _ (c.skip.ensures.takes ▸ c.in_ok-condition.ensures.reads ▸ c.in_ok-expect.ensures.reads ▸ c.in_ok-block.ensures.reads ▸ c.in_ok-elsifs.ensures.reads ▸ c.in_ok-otherwise.ensures.reads ▸ c.in_ok-expect-2.ensures.reads ▸ c.in_ok-expect-3.ensures.reads))
+returns-clause-reads g c = rw (c.in_ok-condition-2.ensures) (choice_takes (seen_at {k = WordIf} c.requires.seen) (body r-statement) _ (c.skip.ensures.takes ▸ c.in_ok-condition.ensures.reads ▸ c.in_ok-expect.ensures.reads ▸ c.in_ok-block.ensures.reads ▸ c.in_ok-elsifs.ensures.reads))

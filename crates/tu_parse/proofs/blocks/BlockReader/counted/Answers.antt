@@ -15,16 +15,7 @@ pub returns-in_err-range-clause-reads : goal.returns-in_err-range-clause-reads
 returns-in_err-range-clause-reads g c = exits _ _ _ _ c.from_residual-in_err-range.ensures.1 (choice_stops (seen_at {k = WordFor} c.requires.seen) (body r-statement) (c.skip.ensures.takes ▹ (flag_takes WordDecreasing c.eat-is_decreasing.result c.eat-is_decreasing.ensures.eats) ▹ c.in_ok-name.ensures.reads ▹ c.in_ok-expect.ensures.reads ▹ first_stops c.in_err-range.ensures.reads))
 
 pub returns-in_err-invariant-clause-reads : goal.returns-in_err-invariant-clause-reads
-returns-in_err-invariant-clause-reads g c = exits _ _ _ _ c.from_residual-in_err-invariant.ensures.1 (choice_stops (seen_at {k = WordFor} c.requires.seen) (body r-statement) (c.skip.ensures.takes ▹ (flag_takes WordDecreasing c.eat-is_decreasing.result c.eat-is_decreasing.ensures.eats) ▹ c.in_ok-name.ensures.reads ▹ c.in_ok-expect.ensures.reads ▹ c.in_ok-range.ensures.reads ▹ first_stops c.in_err-invariant.ensures.reads))
-
-pub returns-in_err-block-clause-reads : goal.returns-in_err-block-clause-reads
-returns-in_err-block-clause-reads g c = exits _ _ _ _ c.from_residual-in_err-block.ensures.1 (choice_stops (seen_at {k = WordFor} c.requires.seen) (body r-statement) (c.skip.ensures.takes ▹ (flag_takes WordDecreasing c.eat-is_decreasing.result c.eat-is_decreasing.ensures.eats) ▹ c.in_ok-name.ensures.reads ▹ c.in_ok-expect.ensures.reads ▹ c.in_ok-range.ensures.reads ▹ c.in_ok-invariant.ensures.reads ▹ first_stops c.in_err-block.ensures.reads))
-
-pub returns-in_err-expect-2-clause-reads : goal.returns-in_err-expect-2-clause-reads
-returns-in_err-expect-2-clause-reads g c = exits _ _ _ _ c.from_residual-in_err-expect-2.ensures.1 (choice_stops (seen_at {k = WordFor} c.requires.seen) (body r-statement) (c.skip.ensures.takes ▹ (flag_takes WordDecreasing c.eat-is_decreasing.result c.eat-is_decreasing.ensures.eats) ▹ c.in_ok-name.ensures.reads ▹ c.in_ok-expect.ensures.reads ▹ c.in_ok-range.ensures.reads ▹ c.in_ok-invariant.ensures.reads ▹ c.in_ok-block.ensures.reads ▹ first_stops c.in_err-expect-2.ensures.reads))
-
-pub returns-in_err-expect-3-clause-reads : goal.returns-in_err-expect-3-clause-reads
-returns-in_err-expect-3-clause-reads g c = exits _ _ _ _ c.from_residual-in_err-expect-3.ensures.1 (choice_stops (seen_at {k = WordFor} c.requires.seen) (body r-statement) (c.skip.ensures.takes ▹ (flag_takes WordDecreasing c.eat-is_decreasing.result c.eat-is_decreasing.ensures.eats) ▹ c.in_ok-name.ensures.reads ▹ c.in_ok-expect.ensures.reads ▹ c.in_ok-range.ensures.reads ▹ c.in_ok-invariant.ensures.reads ▹ c.in_ok-block.ensures.reads ▹ c.in_ok-expect-2.ensures.reads ▹ c.in_err-expect-3.ensures.reads))
+returns-in_err-invariant-clause-reads g c = exits _ _ _ _ c.from_residual-in_err-invariant.ensures.1 (choice_stops (seen_at {k = WordFor} c.requires.seen) (body r-statement) (c.skip.ensures.takes ▹ (flag_takes WordDecreasing c.eat-is_decreasing.result c.eat-is_decreasing.ensures.eats) ▹ c.in_ok-name.ensures.reads ▹ c.in_ok-expect.ensures.reads ▹ c.in_ok-range.ensures.reads ▹ c.in_err-invariant.ensures.reads))
 
 pub returns-clause-reads : goal.returns-clause-reads
-returns-clause-reads g c = choice_takes (seen_at {k = WordFor} c.requires.seen) (body r-statement) _ (c.skip.ensures.takes ▸ (flag_takes WordDecreasing c.eat-is_decreasing.result c.eat-is_decreasing.ensures.eats) ▸ c.in_ok-name.ensures.reads ▸ c.in_ok-expect.ensures.reads ▸ c.in_ok-range.ensures.reads ▸ c.in_ok-invariant.ensures.reads ▸ c.in_ok-block.ensures.reads ▸ c.in_ok-expect-2.ensures.reads ▸ c.in_ok-expect-3.ensures.reads)
+returns-clause-reads g c = rw (c.into_inner-range.ensures, c.new-range.ensures) (choice_takes (seen_at {k = WordFor} c.requires.seen) (body r-statement) _ (c.skip.ensures.takes ▸ (flag_takes WordDecreasing c.eat-is_decreasing.result c.eat-is_decreasing.ensures.eats) ▸ c.in_ok-name.ensures.reads ▸ c.in_ok-expect.ensures.reads ▸ c.in_ok-range.ensures.reads ▸ c.in_ok-invariant.ensures.reads))

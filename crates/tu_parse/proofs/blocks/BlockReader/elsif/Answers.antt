@@ -15,4 +15,4 @@ pub returns-in_err-block-clause-reads : goal.returns-in_err-block-clause-reads
 returns-in_err-block-clause-reads g c = exits _ _ _ _ c.from_residual-in_err-block.ensures.1 (spot_stops (c.in_ok-expect.ensures.reads ▹ c.in_ok-condition.ensures.reads ▹ c.in_ok-expect-2.ensures.reads ▹ c.in_err-block.ensures.reads))
 
 pub returns-clause-reads : goal.returns-clause-reads
-returns-clause-reads g c = rw (c.in_ok-new.ensures) (spot_takes refl c.spot-spot.ensures (c.in_ok-expect.ensures.reads ▸ c.in_ok-condition.ensures.reads ▸ c.in_ok-expect-2.ensures.reads ▸ c.in_ok-block.ensures.reads))
+returns-clause-reads g c = rw (c.in_ok-condition-2.ensures) (spot_takes refl c.spot-spot.ensures (c.in_ok-expect.ensures.reads ▸ c.in_ok-condition.ensures.reads ▸ c.in_ok-expect-2.ensures.reads ▸ c.in_ok-block.ensures.reads))

@@ -12,7 +12,7 @@ pub returns-in_err-to-clause-reads : goal.returns-in_err-to-clause-reads
 returns-in_err-to-clause-reads g c = exits _ _ _ _ c.from_residual-in_err-to.ensures.1 (otherwise_stops refl refl c.if-sees.ensures (c.in_ok-from.ensures.reads ▹ left_stops c.if-eat.ensures.eats.0 (c.if-eat.ensures.eats.1 ▹ c.in_err-to.ensures.reads)))
 
 pub returns-then-eat-clause-reads : goal.returns-then-eat-clause-reads
-returns-then-eat-clause-reads g c = left_takes refl (c.in_ok-from.ensures.reads ▸ left_takes refl (c.if-eat.ensures.eats.1 ▸ c.in_ok-to.ensures.reads))
+returns-then-eat-clause-reads g c = rw (c.into_inner.ensures, c.new-from.ensures) (left_takes refl (c.in_ok-from.ensures.reads ▸ left_takes refl (c.if-eat.ensures.eats.1 ▸ c.in_ok-to.ensures.reads)))
 
 pub returns-clause-reads : goal.returns-clause-reads
-returns-clause-reads g c = left_takes refl (c.in_ok-from.ensures.reads ▸ none_takes c.if-eat.ensures.eats.0 c.if-eat.ensures.eats.1)
+returns-clause-reads g c = rw (c.into_inner-2.ensures, c.new-from.ensures) (left_takes refl (c.in_ok-from.ensures.reads ▸ none_takes c.if-eat.ensures.eats.0 c.if-eat.ensures.eats.1))

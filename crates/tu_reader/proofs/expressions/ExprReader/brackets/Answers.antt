@@ -11,4 +11,4 @@ pub returns-in_err-expect-clause-reads : goal.returns-in_err-expect-clause-reads
 returns-in_err-expect-clause-reads g c = exits _ _ _ _ c.from_residual-in_err-expect.ensures.1 (choice_stops (seen_at {k = SignLeftBracket} c.requires.seen) (body r-primary) (c.skip.ensures.takes ▹ c.in_ok-inner.ensures.reads ▹ c.in_err-expect.ensures.reads))
 
 pub returns-clause-reads : goal.returns-clause-reads
-returns-clause-reads g c = rw (c.in_ok-new.ensures) (choice_takes (seen_at {k = SignLeftBracket} c.requires.seen) (body r-primary) _ (c.skip.ensures.takes ▸ c.in_ok-inner.ensures.reads ▸ c.in_ok-expect.ensures.reads))
+returns-clause-reads g c = rw (c.in_ok-inner-2.ensures) (choice_takes (seen_at {k = SignLeftBracket} c.requires.seen) (body r-primary) _ (c.skip.ensures.takes ▸ c.in_ok-inner.ensures.reads ▸ c.in_ok-expect.ensures.reads))

@@ -19,4 +19,4 @@ pub loop-tokens-preserved : goal.loop-tokens-preserved
 loop-tokens-preserved g c = (turns_more c.in_ok-push.ensures.ok refl c.loop-tokens.invariant.0 (c.in_ok-relation.ensures.reads ▸ c.in_ok-next.ensures.reads), omega (arith, c.loop-tokens.invariant.1, c.in_ok-relation.ensures.less, c.in_ok-next.ensures.less))
 
 pub returns-clause-reads : goal.returns-clause-reads
-returns-clause-reads g c = rule_takes refl c.mark-at.ensures.marks (c.in_ok-first.ensures.reads ▸ turns_end refl c.loop-tokens.invariant.0 c.loop-tokens-test.ensures (nothing_taken _ _ refl))
+returns-clause-reads g c = rw (c.into_inner-first.ensures, c.new-first.ensures) (rule_takes refl c.mark-at.ensures.marks (c.in_ok-first.ensures.reads ▸ turns_end refl c.loop-tokens.invariant.0 c.loop-tokens-test.ensures (nothing_taken _ _ refl)))

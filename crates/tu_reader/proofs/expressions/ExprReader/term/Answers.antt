@@ -15,4 +15,4 @@ pub loop-multiplication-preserved : goal.loop-multiplication-preserved
 loop-multiplication-preserved g c = (turns_more c.in_ok-push.ensures.ok refl c.loop-multiplication.invariant.0 (c.in-Some.ensures.offers ▸ c.in_ok-next.ensures.reads), omega (arith, c.loop-multiplication.invariant.1, c.in-Some.ensures.less, c.in_ok-next.ensures.less))
 
 pub returns-clause-reads : goal.returns-clause-reads
-returns-clause-reads g c = rule_takes refl c.mark-at.ensures.marks (c.in_ok-first.ensures.reads ▸ turns_end refl c.loop-multiplication.invariant.0 c.in_default.ensures.offers.0 c.in_default.ensures.offers.1)
+returns-clause-reads g c = rw (c.into_inner-first.ensures, c.new-first.ensures) (rule_takes refl c.mark-at.ensures.marks (c.in_ok-first.ensures.reads ▸ turns_end refl c.loop-multiplication.invariant.0 c.in_default.ensures.offers.0 c.in_default.ensures.offers.1))

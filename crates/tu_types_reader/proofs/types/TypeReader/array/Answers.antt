@@ -18,4 +18,4 @@ pub returns-in_err-expect-clause-reads : goal.returns-in_err-expect-clause-reads
 returns-in_err-expect-clause-reads g c = exits _ _ _ _ c.from_residual-in_err-expect.ensures.1 (((c.in_ok-first.ensures.reads ▸ turns_end refl c.loop-tokens.invariant.0 c.loop-tokens-test.ensures.eats.0 c.loop-tokens-test.ensures.eats.1)) ▹ c.in_err-expect.ensures.reads)
 
 pub returns-clause-reads : goal.returns-clause-reads
-returns-clause-reads g c = ((c.in_ok-first.ensures.reads ▸ turns_end refl c.loop-tokens.invariant.0 c.loop-tokens-test.ensures.eats.0 c.loop-tokens-test.ensures.eats.1)) ▸ c.in_ok-expect.ensures.reads
+returns-clause-reads g c = rw (c.into_inner-first.ensures, c.new-first.ensures) (((c.in_ok-first.ensures.reads ▸ turns_end refl c.loop-tokens.invariant.0 c.loop-tokens-test.ensures.eats.0 c.loop-tokens-test.ensures.eats.1)) ▸ c.in_ok-expect.ensures.reads)

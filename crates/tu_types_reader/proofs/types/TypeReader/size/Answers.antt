@@ -18,4 +18,4 @@ pub returns-in_err-expect-2-clause-reads : goal.returns-in_err-expect-2-clause-r
 returns-in_err-expect-2-clause-reads g c = exits _ _ _ _ c.from_residual-in_err-expect-2.ensures.1 (left_stops c.if-eat.ensures.eats.0 (c.if-eat.ensures.eats.1 ▹ (left_takes refl c.in_ok-most.ensures.reads ▹ c.in_err-expect-2.ensures.reads)))
 
 pub returns-then-eat-clause-reads : goal.returns-then-eat-clause-reads
-returns-then-eat-clause-reads g c = rw c.in_ok-new.ensures (left_takes refl (c.if-eat.ensures.eats.1 ▸ (left_takes refl c.in_ok-most.ensures.reads ▸ c.in_ok-expect-2.ensures.reads)))
+returns-then-eat-clause-reads g c = rw c.in_ok-most-2.ensures (left_takes refl (c.if-eat.ensures.eats.1 ▸ (left_takes refl c.in_ok-most.ensures.reads ▸ c.in_ok-expect-2.ensures.reads)))

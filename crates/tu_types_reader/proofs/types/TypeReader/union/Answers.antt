@@ -13,17 +13,8 @@ returns-in_err-expect-clause-reads g c = exits _ _ _ _ c.from_residual-in_err-ex
 pub returns-in_err-range-clause-reads : goal.returns-in_err-range-clause-reads
 returns-in_err-range-clause-reads g c = exits _ _ _ _ c.from_residual-in_err-range.ensures.1 (choice_stops (seen_at {k = WordUnion} c.requires.seen) (body r-base) (c.skip.ensures.takes ▹ c.in_ok-tag.ensures.reads ▹ c.in_ok-expect.ensures.reads ▹ first_stops c.in_err-range.ensures.reads))
 
-pub returns-in_err-expect-2-clause-reads : goal.returns-in_err-expect-2-clause-reads
-returns-in_err-expect-2-clause-reads g c = exits _ _ _ _ c.from_residual-in_err-expect-2.ensures.1 (choice_stops (seen_at {k = WordUnion} c.requires.seen) (body r-base) (c.skip.ensures.takes ▹ c.in_ok-tag.ensures.reads ▹ c.in_ok-expect.ensures.reads ▹ c.in_ok-range.ensures.reads ▹ first_stops c.in_err-expect-2.ensures.reads))
-
 pub returns-in_err-variants-clause-reads : goal.returns-in_err-variants-clause-reads
-returns-in_err-variants-clause-reads g c = exits _ _ _ _ c.from_residual-in_err-variants.ensures.1 (choice_stops (seen_at {k = WordUnion} c.requires.seen) (body r-base) (c.skip.ensures.takes ▹ c.in_ok-tag.ensures.reads ▹ c.in_ok-expect.ensures.reads ▹ c.in_ok-range.ensures.reads ▹ c.in_ok-expect-2.ensures.reads ▹ first_stops c.in_err-variants.ensures.reads))
-
-pub returns-in_err-expect-3-clause-reads : goal.returns-in_err-expect-3-clause-reads
-returns-in_err-expect-3-clause-reads g c = exits _ _ _ _ c.from_residual-in_err-expect-3.ensures.1 (choice_stops (seen_at {k = WordUnion} c.requires.seen) (body r-base) (c.skip.ensures.takes ▹ c.in_ok-tag.ensures.reads ▹ c.in_ok-expect.ensures.reads ▹ c.in_ok-range.ensures.reads ▹ c.in_ok-expect-2.ensures.reads ▹ c.in_ok-variants.ensures.reads ▹ first_stops c.in_err-expect-3.ensures.reads))
-
-pub returns-in_err-expect-4-clause-reads : goal.returns-in_err-expect-4-clause-reads
-returns-in_err-expect-4-clause-reads g c = exits _ _ _ _ c.from_residual-in_err-expect-4.ensures.1 (choice_stops (seen_at {k = WordUnion} c.requires.seen) (body r-base) (c.skip.ensures.takes ▹ c.in_ok-tag.ensures.reads ▹ c.in_ok-expect.ensures.reads ▹ c.in_ok-range.ensures.reads ▹ c.in_ok-expect-2.ensures.reads ▹ c.in_ok-variants.ensures.reads ▹ c.in_ok-expect-3.ensures.reads ▹ c.in_err-expect-4.ensures.reads))
+returns-in_err-variants-clause-reads g c = exits _ _ _ _ c.from_residual-in_err-variants.ensures.1 (choice_stops (seen_at {k = WordUnion} c.requires.seen) (body r-base) (c.skip.ensures.takes ▹ c.in_ok-tag.ensures.reads ▹ c.in_ok-expect.ensures.reads ▹ c.in_ok-range.ensures.reads ▹ c.in_err-variants.ensures.reads))
 
 pub returns-clause-reads : goal.returns-clause-reads
-returns-clause-reads g c = choice_takes (seen_at {k = WordUnion} c.requires.seen) (body r-base) _ (c.skip.ensures.takes ▸ c.in_ok-tag.ensures.reads ▸ c.in_ok-expect.ensures.reads ▸ c.in_ok-range.ensures.reads ▸ c.in_ok-expect-2.ensures.reads ▸ c.in_ok-variants.ensures.reads ▸ c.in_ok-expect-3.ensures.reads ▸ c.in_ok-expect-4.ensures.reads)
+returns-clause-reads g c = rw (c.into_inner-range.ensures, c.new-range.ensures) (choice_takes (seen_at {k = WordUnion} c.requires.seen) (body r-base) _ (c.skip.ensures.takes ▸ c.in_ok-tag.ensures.reads ▸ c.in_ok-expect.ensures.reads ▸ c.in_ok-range.ensures.reads ▸ c.in_ok-variants.ensures.reads))

@@ -1,0 +1,11 @@
+use Rattle.tu_reader.proofs.Steps.{◌▸◌, ◌▹◌, first_stops, exits}
+use Rattle.tu_parse.proofs.blocks.BlockReader.alternatives.Goals as goal
+
+pub returns-in_err-elsifs-clause-reads : goal.returns-in_err-elsifs-clause-reads
+returns-in_err-elsifs-clause-reads g c = exits _ _ _ _ c.from_residual.ensures.1 (first_stops c.in_err-elsifs.ensures.reads)
+
+pub returns-in_err-otherwise-clause-reads : goal.returns-in_err-otherwise-clause-reads
+returns-in_err-otherwise-clause-reads g c = exits _ _ _ _ c.from_residual-in_err-otherwise.ensures.1 (c.in_ok-elsifs.ensures.reads ▹ c.in_err-otherwise.ensures.reads)
+
+pub returns-clause-reads : goal.returns-clause-reads
+returns-clause-reads g c = c.in_ok-elsifs.ensures.reads ▸ c.in_ok-otherwise.ensures.reads

@@ -1,0 +1,11 @@
+use Rattle.tu_reader.proofs.Steps.{◌▸◌, ◌▹◌, first_stops, exits}
+use Rattle.tu_parse.proofs.programs.module_body.Goals as goal
+
+pub returns-in_err-parts-clause-reads : goal.returns-in_err-parts-clause-reads
+returns-in_err-parts-clause-reads c = exits _ _ _ _ c.from_residual.ensures.1 (first_stops c.in_err-parts.ensures.reads)
+
+pub returns-in_err-ending-clause-reads : goal.returns-in_err-ending-clause-reads
+returns-in_err-ending-clause-reads c = exits _ _ _ _ c.from_residual-in_err-ending.ensures.1 (c.in_ok-parts.ensures.reads ▹ c.in_err-ending.ensures.reads)
+
+pub returns-clause-reads : goal.returns-clause-reads
+returns-clause-reads c = c.in_ok-parts.ensures.reads ▸ c.in_ok-ending.ensures.reads

@@ -1,0 +1,24 @@
+use Rattle.std.proofs.Common.{refl}
+use Rattle.tu_reader.proofs.Steps.{◌▸◌, ◌▹◌, first_stops, spot_takes, spot_stops, exits}
+use Rattle.tu_parse.proofs.subprograms.handler.Goals as goal
+
+pub returns-in_err-expect-clause-reads : goal.returns-in_err-expect-clause-reads
+returns-in_err-expect-clause-reads c = exits _ _ _ _ c.from_residual.ensures.1 (spot_stops (first_stops c.in_err-expect.ensures.reads))
+
+pub returns-in_err-expect-2-clause-reads : goal.returns-in_err-expect-2-clause-reads
+returns-in_err-expect-2-clause-reads c = exits _ _ _ _ c.from_residual-in_err-expect-2.ensures.1 (spot_stops (c.in_ok-expect.ensures.reads ▹ first_stops c.in_err-expect-2.ensures.reads))
+
+pub returns-in_err-name-clause-reads : goal.returns-in_err-name-clause-reads
+returns-in_err-name-clause-reads c = exits _ _ _ _ c.from_residual-in_err-name.ensures.1 (spot_stops (c.in_ok-expect.ensures.reads ▹ c.in_ok-expect-2.ensures.reads ▹ first_stops c.in_err-name.ensures.reads))
+
+pub returns-in_err-expect-3-clause-reads : goal.returns-in_err-expect-3-clause-reads
+returns-in_err-expect-3-clause-reads c = exits _ _ _ _ c.from_residual-in_err-expect-3.ensures.1 (spot_stops (c.in_ok-expect.ensures.reads ▹ c.in_ok-expect-2.ensures.reads ▹ c.in_ok-name.ensures.reads ▹ first_stops c.in_err-expect-3.ensures.reads))
+
+pub returns-in_err-block-clause-reads : goal.returns-in_err-block-clause-reads
+returns-in_err-block-clause-reads c = exits _ _ _ _ c.from_residual-in_err-block.ensures.1 (spot_stops (c.in_ok-expect.ensures.reads ▹ c.in_ok-expect-2.ensures.reads ▹ c.in_ok-name.ensures.reads ▹ c.in_ok-expect-3.ensures.reads ▹ first_stops c.in_err-block.ensures.reads))
+
+pub returns-in_err-end-clause-reads : goal.returns-in_err-end-clause-reads
+returns-in_err-end-clause-reads c = exits _ _ _ _ c.from_residual-in_err-end.ensures.1 (spot_stops (c.in_ok-expect.ensures.reads ▹ c.in_ok-expect-2.ensures.reads ▹ c.in_ok-name.ensures.reads ▹ c.in_ok-expect-3.ensures.reads ▹ c.in_ok-block.ensures.reads ▹ c.in_err-end.ensures.reads))
+
+pub returns-clause-reads : goal.returns-clause-reads
+returns-clause-reads c = spot_takes refl c.spot-spot.ensures (c.in_ok-expect.ensures.reads ▸ c.in_ok-expect-2.ensures.reads ▸ c.in_ok-name.ensures.reads ▸ c.in_ok-expect-3.ensures.reads ▸ c.in_ok-block.ensures.reads ▸ c.in_ok-end.ensures.reads)

@@ -1,0 +1,15 @@
+use Rattle.std.proofs.Common.{◌≤◌}
+use Rattle.tu_reader.proofs.Steps.{Turns}
+use Rattle.tu_reader.proofs.Lists.{behind_comma}
+use Rattle.tu_token.specs.declared.class.Class.TheVariants.{SignComma}
+use Rattle.tu_token.specs.Rules.{◌⨟◌, t, r-given}
+use Rattle.grammar.specs.Description.{rule}
+use Rattle.tu_reader.specs.Ahead.{weight}
+use Rattle.tu_reader.proofs.Lists.{behind_comma}
+use Rattle.tu_types_reader.proofs.clauses.givens.Given as goal
+
+abbrev pub invariant-loop-alloc : goal.invariant-loop-alloc
+invariant-loop-alloc l = Turns (t SignComma ⨟ rule r-given) (behind_comma r-given) l.more l.initial.tokens l.tokens × (weight l.tokens ≤ weight l.initial.tokens)
+
+abbrev pub decreases-loop-alloc : goal.decreases-loop-alloc
+decreases-loop-alloc l = weight l.tokens
