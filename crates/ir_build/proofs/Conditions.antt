@@ -10,11 +10,11 @@ use Rattle.tu_token.specs.Rules.{r-expr, r-compare, r-relation}
 use Rattle.tu_token.specs.Syntax.{Of}
 use Rattle.tu_expr.specs.Forms.{NoMore, More, Compare, Related}
 use Rattle.tu_expr.specs.Levels.{OnlyCompare}
-use Rattle.tu_meaning.specs.Operators.{relate}
-use Rattle.tu_meaning.specs.Interpreter.{answered, evaluate_compare, evaluate_sum, condition, truth_of}
-use Rattle.tu_meaning.specs.Steps.{Step, give, pay, ◌>>=◌, ◌>>◌}
-use Rattle.tu_meaning.specs.Store.{Store, by_copying}
-use Rattle.tu_meaning.specs.Values.{Value, Int, Truth, Variable}
+use Rattle.tu_tree_meaning.specs.Operators.{relate}
+use Rattle.tu_tree_meaning.specs.Interpreter.{answered, evaluate_compare, evaluate_sum, condition, truth_of}
+use Rattle.tu_tree_meaning.specs.Steps.{Step, give, pay, ◌>>=◌, ◌>>◌}
+use Rattle.tu_tree_meaning.specs.Store.{Store, by_copying}
+use Rattle.tu_tree_meaning.specs.Values.{Value, Int, Truth, Variable}
 use Rattle.tu_value.specs.Comparisons.{Comparison, comparison_of, compares, compared}
 use Rattle.tu_value.specs.Words.{word_of_int}
 use Rattle.tu_value.proofs.Comparing.{relations_hold}

@@ -5,7 +5,7 @@ use Rattle.std.proofs.lemmas.List.{append-nil, length-append}
 use Rattle.ir_form.specs.declared.op.Op.{Op}
 use Rattle.ir_form.specs.declared.unit.Routine.{Routine}
 use Rattle.ir_form.specs.declared.unit.Unit.{Unit as RegionUnit}
-use Rattle.ir_form.specs.Values.{given, defined, defined_list}
+use Rattle.ir_form.specs.Values.{given, defined, defined_list, marks, marks_list}
 use Rattle.ir_form.specs.Valid.{Scope, with, given_list}
 use Rattle.ir_form.specs.Weight.{weight_list}
 use Rattle.ir_form.specs.Tests.{contains, fits, fits_list}
@@ -39,6 +39,10 @@ pub defined_append : (xs ys : List Op) → defined_list (xs ++ ys) ≡ defined_l
 defined_append [] ys = refl
 defined_append (x ∷ xs) ys = ap (λ z. defined x ++ z) (defined_append xs ys) ∙ sym (append_assoc (defined x) (defined_list xs) (defined_list ys))
 
+pub marks_append : (xs ys : List Op) → marks_list (xs ++ ys) ≡ marks_list xs ++ marks_list ys
+marks_append [] ys = refl
+marks_append (x ∷ xs) ys = ap (λ z. marks x ++ z) (marks_append xs ys) ∙ sym (append_assoc (marks x) (marks_list xs) (marks_list ys))
+
 pub weight_append : (xs ys : List Op) → weight_list (xs ++ ys) ≡ weight_list xs + weight_list ys
 weight_append [] ys = omega arith
 weight_append (x ∷ xs) ys = let e = weight_append xs ys in omega arith
@@ -50,22 +54,23 @@ pub with_none : (s : Scope) → with s [] ≡ s
 with_none s = ap (λ vs. record s { values = vs }) (append-nil s.values)
 
 pub same_grows : (most : ℕ) (code : Code) → Grows most code code
-same_grows most code = record { few = omega arith; light = omega arith; tidy = λ n t. t; kept = λ s v h. h }
+same_grows most code = record { few = omega arith; light = omega arith; tidy = λ n t. t; unguarded = λ e. e; kept = λ s v h. h }
 
 pub grows_then : {a b most : ℕ} {code middle made : Code} → Grows a code middle → Grows b middle made → a + b ≤ most → Grows most code made
 grows_then g h le = record {
   few = let p = g.few in let q = h.few in omega (arith, le);
   light = let p = g.light in let q = h.light in omega (arith, le);
   tidy = λ n t. h.tidy n (g.tidy n t);
+  unguarded = λ e. h.unguarded (g.unguarded e);
   kept = λ s v e. h.kept s v (g.kept s v e);
 }
 
 pub grows_more : {a most : ℕ} {code made : Code} → Grows a code made → a ≤ most → Grows most code made
-grows_more g le = record { few = let p = g.few in omega (arith, le); light = let p = g.light in omega (arith, le); tidy = g.tidy; kept = g.kept }
+grows_more g le = record { few = let p = g.few in omega (arith, le); light = let p = g.light in omega (arith, le); tidy = g.tidy; unguarded = g.unguarded; kept = g.kept }
 
 -- operations behind the code, which define the values up to the next one
-pub appended_grows : (most next : ℕ) (code : Code) (ops : List Op) → weight_list ops ≤ most → next ≤ code.next + most → AreFrom code.next (defined_list ops) → code.next + length (defined_list ops) ≡ next → Grows most code (record { ops = code.ops ++ ops; next = next })
-appended_grows most next code ops light few from is = record {
+pub appended_grows : (most next : ℕ) (code : Code) (ops : List Op) → weight_list ops ≤ most → next ≤ code.next + most → AreFrom code.next (defined_list ops) → code.next + length (defined_list ops) ≡ next → marks_list ops ≡ [] → Grows most code (record { ops = code.ops ++ ops; next = next })
+appended_grows most next code ops light few from is free = record {
   few = few;
   light = let e = weight_append code.ops ops in omega (arith, light);
   tidy = λ n t.
@@ -74,11 +79,12 @@ appended_grows most next code ops light few from is = record {
         values = subst (AreFrom n) (sym (defined_append code.ops ops)) (from_append n code.next (defined_list code.ops) (defined_list ops) t.values l from);
         last = let e = ap length (defined_append code.ops ops) in let f = length-append (defined_list code.ops) (defined_list ops) in omega (arith, is);
       };
+  unguarded = λ e. marks_append code.ops ops ∙ ap (λ z. z ++ marks_list ops) e ∙ free;
   kept = λ s v h. subst (λ z. contains (s.values ++ z) v ≡ true) (sym (given_append code.ops ops)) (subst (λ z. contains z v ≡ true) (append_assoc s.values (given_list code.ops) (given_list ops)) (kept_front (s.values ++ given_list code.ops) (given_list ops) v h));
 }
 
-pub behind_grows : (most count : ℕ) (code : Code) (ops : List Op) → weight_list ops ≤ most → count ≤ most → AreFrom code.next (defined_list ops) → length (defined_list ops) ≡ count → Grows most code (with_piece code ops count)
-behind_grows most count code ops light few from is = appended_grows most (code.next + count) code ops light (omega (arith, few)) from (omega (arith, is))
+pub behind_grows : (most count : ℕ) (code : Code) (ops : List Op) → weight_list ops ≤ most → count ≤ most → AreFrom code.next (defined_list ops) → length (defined_list ops) ≡ count → marks_list ops ≡ [] → Grows most code (with_piece code ops count)
+behind_grows most count code ops light few from is free = appended_grows most (code.next + count) code ops light (omega (arith, few)) from (omega (arith, is)) free
 
 -- what is given behind the code is seen
 pub behind_seen : (count : ℕ) (s : Scope) (code : Code) (ops : List Op) (v : ℕ) → contains (given_list ops) v ≡ true → Seen s (with_piece code ops count) v

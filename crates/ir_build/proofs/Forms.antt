@@ -17,11 +17,12 @@ use Rattle.tu_expr.specs.Parts.{Part, text_of}
 use Rattle.tu_expr.specs.Views.{signed, multiplied}
 use Rattle.tu_expr.specs.Levels.{OnlySum, OnlyPrimary}
 use Rattle.tu_expr.specs.Forms.{NoMore, More, Sum, Term, Prefix, Power, Added, Subtracted, Multiplied, Divided, Reduced, NumberValue, TrueValue, FalseValue, PathValue, Brackets, TextValue, NilValue, Path}
-use Rattle.tu_meaning.specs.Operators.{plus, minus, times, is_int}
-use Rattle.tu_meaning.specs.Interpreter.{answered, read, evaluate, evaluate_sum, add, evaluate_term, multiply, evaluate_prefix, evaluate_primary}
-use Rattle.tu_meaning.specs.Steps.{State, Step, give, pay, look, ◌>>=◌, ◌>>◌}
-use Rattle.tu_meaning.specs.Store.{Store, by_copying, fetch_root}
-use Rattle.tu_meaning.specs.Values.{Value, Unset, Int, Truth, Variable, variable_of, Place, place_of}
+use Rattle.tu_tree_meaning.specs.Operators.{plus, minus, times, is_int}
+use Rattle.tu_tree_meaning.specs.Interpreter.{answered, read, evaluate, evaluate_sum, add, evaluate_term, multiply, evaluate_prefix, evaluate_primary}
+use Rattle.tu_tree_meaning.specs.Steps.{State, Step, give, pay, look, ◌>>=◌, ◌>>◌}
+use Rattle.tu_tree_meaning.specs.Store.{Store, by_copying, fetch_root}
+use Rattle.tu_tree_meaning.specs.Values.{Value, Unset, Int, Truth, Variable, variable_of, Place, place_of}
+use Rattle.tu_value.specs.Laws.{fetch_most}
 use Rattle.tu_value.specs.Meets.{GivesValue, Meets, fetched}
 use Rattle.tu_value.proofs.Leaves.{fetch_meets, literal_meets}
 use Rattle.tu_value.specs.Words.{word_of, IsSmall}
@@ -77,9 +78,9 @@ is_small Unset h = tt
 is_small (Int z) h = h
 is_small (Truth b) h = absurd h
 
-read_keeps : {x : Site} {left : ℕ} {tr : Trace} {b : ℕ} (line n at : ℕ) (v : Value) (s : State Store) (st : CodeState) (c : ℕ) (r : Run) → x.low ≤ n → Holds x left s st c → st.world ≡ traced x.world tr → c ≤ b → IsStored v → Meets line n n 26 (fetched v) st c r → Keeps x (Gives x left n n st.env) tr (b + 120) (read line v s) r
+read_keeps : {x : Site} {left : ℕ} {tr : Trace} {b : ℕ} (line n at : ℕ) (v : Value) (s : State Store) (st : CodeState) (c : ℕ) (r : Run) → x.low ≤ n → Holds x left s st c → st.world ≡ traced x.world tr → c ≤ b → IsStored v → Meets line n n fetch_most (fetched v) st c r → Keeps x (Gives x left n n st.env) tr (b + factor) (read line v s) r
 read_keeps line n at Unset s st c r low h w le i m = keeps_raise kind.Unset line s r m.how (world_of m.only ∙ w) (let q = m.costs.bound in omega arith)
-read_keeps line n at (Int z) s st c r low h w le i m = keeps_give (Int z) s r (after_piece z s st c 26 r low (omega arith) h (λ j lt. refl) i m) (world_of m.only ∙ w) (let q = m.costs.bound in omega arith)
+read_keeps line n at (Int z) s st c r low h w le i m = keeps_give (Int z) s r (after_piece z s st c fetch_most r low (omega arith) h (λ j lt. refl) i m) (world_of m.only ∙ w) (let q = m.costs.bound in omega arith)
 read_keeps line n at (Truth b) s st c r low h w le i m = absurd i
 
 -- what the pieces of the operators do

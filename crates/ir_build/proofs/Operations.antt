@@ -10,7 +10,7 @@ use Rattle.ir_form.specs.declared.op.Op.{Op}
 use Rattle.ir_form.specs.declared.plain.Width.TheVariants.{Word}
 use Rattle.ir_form.specs.declared.unit.Routine.{Routine}
 use Rattle.ir_form.specs.declared.unit.Unit.{Unit as RegionUnit}
-use Rattle.ir_form.specs.Values.{defined_list}
+use Rattle.ir_form.specs.Values.{defined_list, marks_list}
 use Rattle.ir_form.specs.Valid.{Scope, with}
 use Rattle.ir_form.specs.Weight.{weight_list}
 use Rattle.ir_form.specs.Tests.{contains, fits_list}
@@ -37,7 +37,7 @@ pub sees_next : (s : Scope) (n : ℕ) (vs : List ℕ) → SeesAll s vs → SeesA
 sees_next s n vs h = (kept_back s.values (n ∷ []) n (here n []), sees_more s (n ∷ []) vs h)
 
 pub literal_grows : (code : Code) (number : ℕ) → Grows 1 code (with_piece code (literal_code number code.next) 1)
-literal_grows code number = behind_grows 1 1 code (literal_code number code.next) (omega arith) (omega arith) (refl, tt) refl
+literal_grows code number = behind_grows 1 1 code (literal_code number code.next) (omega arith) (omega arith) (refl, tt) refl refl
 
 fetch_weight : (k : Fixed) (line at n : ℕ) → weight_list (fetch_code k line at n) ≡ 3
 unfolding Rattle.ir_form.specs.declared.op.Op.TheBlock.hidden-the_row-Op-0 denote.Hole.Carrier.hidden
@@ -47,9 +47,13 @@ fetch_values : (k : Fixed) (line at n : ℕ) → AreFrom n (defined_list (fetch_
 unfolding Rattle.ir_form.specs.declared.op.Op.TheBlock.hidden-the_row-Op-0 denote.Hole.Carrier.hidden
 fetch_values k line at n = ((refl, tt), refl)
 
+fetch_unguarded : (k : Fixed) (line at n : ℕ) → marks_list (fetch_code k line at n) ≡ []
+unfolding Rattle.ir_form.specs.declared.op.Op.TheBlock.hidden-the_row-Op-0 denote.Hole.Carrier.hidden
+fetch_unguarded k line at n = refl
+
 pub fetch_grows : (k : Fixed) (line at : ℕ) (code : Code) → Grows 3 code (with_piece code (fetch_code k line at code.next) 1)
 fetch_grows k line at code =
-    let w = fetch_weight k line at code.next in let v = fetch_values k line at code.next in behind_grows 3 1 code (fetch_code k line at code.next) (omega arith) (omega arith) v.0 v.1
+    let w = fetch_weight k line at code.next in let v = fetch_values k line at code.next in behind_grows 3 1 code (fetch_code k line at code.next) (omega arith) (omega arith) v.0 v.1 (fetch_unguarded k line at code.next)
 
 sum_weight : (k : Fixed) (line left right n : ℕ) → weight_list (sum_code k line left right n) ≡ 8
 unfolding Rattle.ir_form.specs.declared.op.Op.TheBlock.hidden-the_row-Op-0 denote.Hole.Carrier.hidden
@@ -59,9 +63,13 @@ sum_values : (k : Fixed) (line left right n : ℕ) → AreFrom n (defined_list (
 unfolding Rattle.ir_form.specs.declared.op.Op.TheBlock.hidden-the_row-Op-0 denote.Hole.Carrier.hidden
 sum_values k line left right n = ((refl, (omega arith, (omega arith, (omega arith, tt)))), refl)
 
+sum_unguarded : (k : Fixed) (line left right n : ℕ) → marks_list (sum_code k line left right n) ≡ []
+unfolding Rattle.ir_form.specs.declared.op.Op.TheBlock.hidden-the_row-Op-0 denote.Hole.Carrier.hidden
+sum_unguarded k line left right n = refl
+
 pub sum_grows : (k : Fixed) (line left right : ℕ) (code : Code) → Grows 8 code (with_piece code (sum_code k line left right code.next) 4)
 sum_grows k line left right code =
-    let w = sum_weight k line left right code.next in let v = sum_values k line left right code.next in behind_grows 8 4 code (sum_code k line left right code.next) (omega arith) (omega arith) v.0 v.1
+    let w = sum_weight k line left right code.next in let v = sum_values k line left right code.next in behind_grows 8 4 code (sum_code k line left right code.next) (omega arith) (omega arith) v.0 v.1 (sum_unguarded k line left right code.next)
 
 difference_weight : (k : Fixed) (line left right n : ℕ) → weight_list (difference_code k line left right n) ≡ 8
 unfolding Rattle.ir_form.specs.declared.op.Op.TheBlock.hidden-the_row-Op-0 denote.Hole.Carrier.hidden
@@ -71,9 +79,13 @@ difference_values : (k : Fixed) (line left right n : ℕ) → AreFrom n (defined
 unfolding Rattle.ir_form.specs.declared.op.Op.TheBlock.hidden-the_row-Op-0 denote.Hole.Carrier.hidden
 difference_values k line left right n = ((refl, (omega arith, (omega arith, (omega arith, tt)))), refl)
 
+difference_unguarded : (k : Fixed) (line left right n : ℕ) → marks_list (difference_code k line left right n) ≡ []
+unfolding Rattle.ir_form.specs.declared.op.Op.TheBlock.hidden-the_row-Op-0 denote.Hole.Carrier.hidden
+difference_unguarded k line left right n = refl
+
 pub difference_grows : (k : Fixed) (line left right : ℕ) (code : Code) → Grows 8 code (with_piece code (difference_code k line left right code.next) 4)
 difference_grows k line left right code =
-    let w = difference_weight k line left right code.next in let v = difference_values k line left right code.next in behind_grows 8 4 code (difference_code k line left right code.next) (omega arith) (omega arith) v.0 v.1
+    let w = difference_weight k line left right code.next in let v = difference_values k line left right code.next in behind_grows 8 4 code (difference_code k line left right code.next) (omega arith) (omega arith) v.0 v.1 (difference_unguarded k line left right code.next)
 
 product_weight : (k : Fixed) (line left right n : ℕ) → weight_list (product_code k line left right n) ≡ 11
 unfolding Rattle.ir_form.specs.declared.op.Op.TheBlock.hidden-the_row-Op-0 denote.Hole.Carrier.hidden
@@ -83,9 +95,13 @@ product_values : (k : Fixed) (line left right n : ℕ) → AreFrom n (defined_li
 unfolding Rattle.ir_form.specs.declared.op.Op.TheBlock.hidden-the_row-Op-0 denote.Hole.Carrier.hidden
 product_values k line left right n = ((refl, (omega arith, (omega arith, (omega arith, (omega arith, (omega arith, (omega arith, tt))))))), refl)
 
+product_unguarded : (k : Fixed) (line left right n : ℕ) → marks_list (product_code k line left right n) ≡ []
+unfolding Rattle.ir_form.specs.declared.op.Op.TheBlock.hidden-the_row-Op-0 denote.Hole.Carrier.hidden
+product_unguarded k line left right n = refl
+
 pub product_grows : (k : Fixed) (line left right : ℕ) (code : Code) → Grows 11 code (with_piece code (product_code k line left right code.next) 7)
 product_grows k line left right code =
-    let w = product_weight k line left right code.next in let v = product_values k line left right code.next in behind_grows 11 7 code (product_code k line left right code.next) (omega arith) (omega arith) v.0 v.1
+    let w = product_weight k line left right code.next in let v = product_values k line left right code.next in behind_grows 11 7 code (product_code k line left right code.next) (omega arith) (omega arith) v.0 v.1 (product_unguarded k line left right code.next)
 
 more_weight : (line left number n : ℕ) → weight_list (more_code line left number n) ≡ 4
 unfolding Rattle.ir_form.specs.declared.op.Op.TheBlock.hidden-the_row-Op-0 denote.Hole.Carrier.hidden
@@ -95,9 +111,13 @@ more_values : (line left number n : ℕ) → AreFrom n (defined_list (more_code 
 unfolding Rattle.ir_form.specs.declared.op.Op.TheBlock.hidden-the_row-Op-0 denote.Hole.Carrier.hidden
 more_values line left number n = ((refl, (refl, tt)), refl)
 
+more_unguarded : (line left number n : ℕ) → marks_list (more_code line left number n) ≡ []
+unfolding Rattle.ir_form.specs.declared.op.Op.TheBlock.hidden-the_row-Op-0 denote.Hole.Carrier.hidden
+more_unguarded line left number n = refl
+
 pub more_grows : (line left number : ℕ) (code : Code) → Grows 4 code (with_piece code (more_code line left number code.next) 2)
 more_grows line left number code =
-    let w = more_weight line left number code.next in let v = more_values line left number code.next in behind_grows 4 2 code (more_code line left number code.next) (omega arith) (omega arith) v.0 v.1
+    let w = more_weight line left number code.next in let v = more_values line left number code.next in behind_grows 4 2 code (more_code line left number code.next) (omega arith) (omega arith) v.0 v.1 (more_unguarded line left number code.next)
 
 less_weight : (line left number n : ℕ) → weight_list (less_code line left number n) ≡ 4
 unfolding Rattle.ir_form.specs.declared.op.Op.TheBlock.hidden-the_row-Op-0 denote.Hole.Carrier.hidden
@@ -107,12 +127,16 @@ less_values : (line left number n : ℕ) → AreFrom n (defined_list (less_code 
 unfolding Rattle.ir_form.specs.declared.op.Op.TheBlock.hidden-the_row-Op-0 denote.Hole.Carrier.hidden
 less_values line left number n = ((refl, (refl, tt)), refl)
 
+less_unguarded : (line left number n : ℕ) → marks_list (less_code line left number n) ≡ []
+unfolding Rattle.ir_form.specs.declared.op.Op.TheBlock.hidden-the_row-Op-0 denote.Hole.Carrier.hidden
+less_unguarded line left number n = refl
+
 pub less_grows : (line left number : ℕ) (code : Code) → Grows 4 code (with_piece code (less_code line left number code.next) 2)
 less_grows line left number code =
-    let w = less_weight line left number code.next in let v = less_values line left number code.next in behind_grows 4 2 code (less_code line left number code.next) (omega arith) (omega arith) v.0 v.1
+    let w = less_weight line left number code.next in let v = less_values line left number code.next in behind_grows 4 2 code (less_code line left number code.next) (omega arith) (omega arith) v.0 v.1 (less_unguarded line left number code.next)
 
 pub store_grows : (at from : ℕ) (code : Code) → Grows 1 code (with_piece code (store_code at from) 0)
-store_grows at from code = behind_grows 1 0 code (store_code at from) (omega arith) (omega arith) tt refl
+store_grows at from code = behind_grows 1 0 code (store_code at from) (omega arith) (omega arith) tt refl refl
 
 module _ {u : RegionUnit} {r : Routine} where
   -- operations in their order

@@ -9,11 +9,11 @@ use Rattle.ir_form.specs.declared.op.Op.{Op, If', Loop', Row_of-Op, end_of-Op, m
 use Rattle.ir_form.specs.declared.op.Op.TheViews.{Loop}
 use Rattle.ir_form.specs.declared.unit.Routine.{Routine}
 use Rattle.ir_form.specs.declared.unit.Unit.{Unit as RegionUnit}
-use Rattle.ir_form.specs.Values.{defined, defined_list}
+use Rattle.ir_form.specs.Values.{defined, defined_list, marks, marks_list}
 use Rattle.ir_form.specs.Valid.{Scope, looped, leaves_list}
 use Rattle.ir_form.specs.Weight.{weight, weight_all, weight_list}
 use Rattle.ir_form.specs.Tests.{contains, is_number, fits, fits_list, fits_region}
-use Rattle.ir_form.proofs.Lists.{defined-If, defined-Loop, fits-If, fits-Loop}
+use Rattle.ir_form.proofs.Lists.{defined-If, defined-Loop, marks-If, marks-Loop, fits-If, fits-Loop}
 use Rattle.ir_code.specs.Pieces.{choice, leave, once, raise, raise_unless, region, repeat}
 use Rattle.ir_build.proofs.Fits.{is_and, with_none}
 
@@ -57,6 +57,15 @@ defined_once ops = defined-Loop false [] (region ops) [] ∙ append-nil (defined
 
 pub defined_repeat : (ops : List Op) → defined (repeat ops) ≡ defined_list ops
 defined_repeat ops = defined-Loop true [] (region ops) [] ∙ append-nil (defined_list ops)
+
+pub marks_choice : (relation : Relation) (left right : ℕ) (first others : List Op) → marks (choice relation left right first others) ≡ marks_list first ++ marks_list others
+marks_choice relation left right first others = marks-If relation left right (region first) (region others) []
+
+pub marks_once : (ops : List Op) → marks (once ops) ≡ marks_list ops
+marks_once ops = marks-Loop false [] (region ops) []
+
+pub marks_repeat : (ops : List Op) → marks (repeat ops) ≡ marks_list ops
+marks_repeat ops = marks-Loop true [] (region ops) []
 
 -- a region that gives no values closes, whether it leaves or not
 pub none_taken : (gone : Bool) → (0 == (if gone then 0 else 0)) ≡ true

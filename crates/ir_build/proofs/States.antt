@@ -5,9 +5,9 @@ use Rattle.std.specs.List.{list_any}
 use Rattle.std.specs.Str.{bytes_eq}
 use Rattle.std.proofs.lemmas.Slice.Eq.{bytes_eq-Decides}
 use Rattle.ir_form.specs.State.{State as CodeState, Env}
-use Rattle.tu_meaning.specs.Steps.{State}
-use Rattle.tu_meaning.specs.Store.{Store}
-use Rattle.tu_meaning.specs.Values.{Variable}
+use Rattle.tu_tree_meaning.specs.Steps.{State}
+use Rattle.tu_tree_meaning.specs.Store.{Store}
+use Rattle.tu_tree_meaning.specs.Values.{Variable}
 use Rattle.tu_value.specs.Meets.{OnlyFrom, HasFixed}
 use Rattle.ir_build.specs.Keeps.{Named, Site, Lies, AllLie, Holds}
 use Rattle.ir_build.specs.Code.{named}

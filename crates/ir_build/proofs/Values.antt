@@ -11,11 +11,11 @@ use Rattle.ir_form.specs.Meaning.{run_list}
 use Rattle.ir_form.specs.State.{State as CodeState, Env, How, Next, Left, Throws, Ends, Over, Run, next, on_run, on_how}
 use Rattle.ir_code.proofs.Running.{runs_in_order}
 use Rattle.ir_code.specs.declared.code.Code.{Code}
-use Rattle.tu_meaning.specs.Operators.{Answer, Gives as AnswersWith, Raises, is_int, exact}
-use Rattle.tu_meaning.specs.Interpreter.{answered}
-use Rattle.tu_meaning.specs.Steps.{State, Step, give, pay, ◌>>=◌, ◌>>◌}
-use Rattle.tu_meaning.specs.Store.{Store}
-use Rattle.tu_meaning.specs.Values.{Value, Int}
+use Rattle.tu_tree_meaning.specs.Operators.{Answer, Gives as AnswersWith, Raises, is_int, exact}
+use Rattle.tu_tree_meaning.specs.Interpreter.{answered}
+use Rattle.tu_tree_meaning.specs.Steps.{State, Step, give, pay, ◌>>=◌, ◌>>◌}
+use Rattle.tu_tree_meaning.specs.Store.{Store}
+use Rattle.tu_tree_meaning.specs.Values.{Value, Int}
 use Rattle.tu_value.specs.Words.{word_of_int}
 use Rattle.tu_value.specs.Meets.{OnlyFrom, GivesValue, Meets, HasFixed}
 use Rattle.ir_build.specs.Keeps.{factor, Site, Holds, Post, Keeps, Gives}
@@ -41,25 +41,25 @@ world_of o = ap (λ (z : CodeState). z.world) o.same
 
 module _ {x : Site} where
   -- an operator's answer, and what its piece comes to
-  exact_keeps : {left at base n most : ℕ} {env : Env} {tr : Trace} {b : ℕ} (line : ℕ) (z : ℤ) (big : Bool) (s : State Store) (st : CodeState) (c : ℕ) (r : Run) → is_int z ≡ big → x.low ≤ n → base ≤ n → most ≤ 120 → Holds x left s st c → ((j : ℕ) → j < base → st.env j ≡ env j) → st.world ≡ traced x.world tr → c ≤ b →
-      Meets line n at most (if big then AnswersWith (Int z) else Raises kind.Overflow) st c r → Keeps x (Gives x left at base env) tr (b + 120) (answered line (if big then AnswersWith (Int z) else Raises kind.Overflow) s) r
+  exact_keeps : {left at base n most : ℕ} {env : Env} {tr : Trace} {b : ℕ} (line : ℕ) (z : ℤ) (big : Bool) (s : State Store) (st : CodeState) (c : ℕ) (r : Run) → is_int z ≡ big → x.low ≤ n → base ≤ n → most ≤ factor → Holds x left s st c → ((j : ℕ) → j < base → st.env j ≡ env j) → st.world ≡ traced x.world tr → c ≤ b →
+      Meets line n at most (if big then AnswersWith (Int z) else Raises kind.Overflow) st c r → Keeps x (Gives x left at base env) tr (b + factor) (answered line (if big then AnswersWith (Int z) else Raises kind.Overflow) s) r
   exact_keeps line z true s st c r e ln lb lm h kept w le m = keeps_give (Int z) s r (after_piece z s st c _ r ln lb h kept e m) (world_of m.only ∙ w) (let q = m.costs.bound in omega arith)
   exact_keeps line z false s st c r e ln lb lm h kept w le m = keeps_raise kind.Overflow line s r m.how (world_of m.only ∙ w) (let q = m.costs.bound in omega arith)
 
-  pub answer_keeps : {left at base n most : ℕ} {env : Env} {tr : Trace} {b : ℕ} (line : ℕ) (z : ℤ) (s : State Store) (st : CodeState) (c : ℕ) (r : Run) → x.low ≤ n → base ≤ n → most ≤ 120 → Holds x left s st c → ((j : ℕ) → j < base → st.env j ≡ env j) → st.world ≡ traced x.world tr → c ≤ b →
-      Meets line n at most (exact z) st c r → Keeps x (Gives x left at base env) tr (b + 120) (answered line (exact z) s) r
+  pub answer_keeps : {left at base n most : ℕ} {env : Env} {tr : Trace} {b : ℕ} (line : ℕ) (z : ℤ) (s : State Store) (st : CodeState) (c : ℕ) (r : Run) → x.low ≤ n → base ≤ n → most ≤ factor → Holds x left s st c → ((j : ℕ) → j < base → st.env j ≡ env j) → st.world ≡ traced x.world tr → c ≤ b →
+      Meets line n at most (exact z) st c r → Keeps x (Gives x left at base env) tr (b + factor) (answered line (exact z) s) r
   answer_keeps line z s st c r ln lb lm h kept w le m = exact_keeps line z (is_int z) s st c r refl ln lb lm h kept w le m
 
 -- the piece of an operator does what the operator says
 pub record Operator (x : Site) (line : ℕ) (calls : Calls) (op : ℤ → ℤ → ℤ) (piece : (left right n : ℕ) → List Op) (at : ℕ) : Type 0 where
   pub most : ℕ
-  pub small : most ≤ 120
+  pub small : most ≤ factor
   pub meets : (left right n : ℕ) (y z : ℤ) (st : CodeState) (c : ℕ) → is_int y ≡ true → is_int z ≡ true → HasFixed x.fixed n st → left < n → right < n → st.env left ≡ Some (word_of_int y) → st.env right ≡ Some (word_of_int z) → Meets line n (n + at) most (exact (op y z)) st c (run_list x.setting calls (piece left right n) st c)
 
 -- and that of one whose right operand is a number
 pub record Shortcut (x : Site) (line : ℕ) (calls : Calls) (op : ℤ → ℤ → ℤ) (piece : (left number n : ℕ) → List Op) : Type 0 where
   pub most : ℕ
-  pub small : most ≤ 120
+  pub small : most ≤ factor
   pub meets : (left number n : ℕ) (y : ℤ) (st : CodeState) (c : ℕ) → is_int y ≡ true → number ≤ 2147483647 → HasFixed x.fixed n st → left < n → st.env left ≡ Some (word_of_int y) → Meets line n (n + 1) most (exact (op y (pos number))) st c (run_list x.setting calls (piece left number n) st c)
 
 -- a step that does nothing but give a number, for a unit
@@ -122,13 +122,13 @@ module _ {x : Site} {calls : Calls} where
             subst (λ z. Keeps x (Gives x left made.value base env) tr b ((pay 1 >> (m >>= λ u. answered line (f z u) >>= k)) s) (on_how how st c (run_list x.setting calls (a.ops ++ (p ++ rest.ops))))) (sym g.is)
             (subst (λ z. Keeps x (Gives x left made.value base env) tr b ((pay 1 >> (m >>= λ u. answered line (f (Int g.int) u) >>= k)) s) (on_how z st c (run_list x.setting calls (a.ops ++ (p ++ rest.ops))))) (sym g.goes)
             (keeps_paid 1 s (m >>= λ u. answered line (f (Int g.int) u) >>= k) _ (keeps_is (runs_in_order x.setting calls a.ops (p ++ rest.ops) st c)
-            (keeps_more (omega arith) (keeps_flow {b = b} 120 s m (λ u. answered line (f (Int g.int) u) >>= k) (run_list x.setting calls a.ops st c) (λ how st c. on_how how st c (run_list x.setting calls (p ++ rest.ops))) (passes_next (run_list x.setting calls (p ++ rest.ops))) (a.keeps left s st c tr b g.holds w le)
+            (keeps_more (omega arith) (keeps_flow {b = b} factor s m (λ u. answered line (f (Int g.int) u) >>= k) (run_list x.setting calls a.ops st c) (λ how st c. on_how how st c (run_list x.setting calls (p ++ rest.ops))) (passes_next (run_list x.setting calls (p ++ rest.ops))) (a.keeps left s st c tr b g.holds w le)
             λ u s1 how1 st1 c1 tr1 b1 g1 w1 le1.
-            subst (λ z. Keeps x (Gives x left made.value base env) tr1 (b1 + 120) ((answered line (f (Int g.int) z) >>= k) s1) (on_how how1 st1 c1 (run_list x.setting calls (p ++ rest.ops)))) (sym g1.is)
-            (subst (λ z. Keeps x (Gives x left made.value base env) tr1 (b1 + 120) ((answered line (f (Int g.int) (Int g1.int)) >>= k) s1) (on_how z st1 c1 (run_list x.setting calls (p ++ rest.ops)))) (sym g1.goes)
-            (subst (λ z. Keeps x (Gives x left made.value base env) tr1 (b1 + 120) ((answered line z >>= k) s1) (run_list x.setting calls (p ++ rest.ops) st1 c1)) (sym (is g.int g1.int))
+            subst (λ z. Keeps x (Gives x left made.value base env) tr1 (b1 + factor) ((answered line (f (Int g.int) z) >>= k) s1) (on_how how1 st1 c1 (run_list x.setting calls (p ++ rest.ops)))) (sym g1.is)
+            (subst (λ z. Keeps x (Gives x left made.value base env) tr1 (b1 + factor) ((answered line (f (Int g.int) (Int g1.int)) >>= k) s1) (on_how z st1 c1 (run_list x.setting calls (p ++ rest.ops)))) (sym g1.goes)
+            (subst (λ z. Keeps x (Gives x left made.value base env) tr1 (b1 + factor) ((answered line z >>= k) s1) (run_list x.setting calls (p ++ rest.ops) st1 c1)) (sym (is g.int g1.int))
             (keeps_is (runs_in_order x.setting calls p rest.ops st1 c1)
-            (keeps_more (omega arith) (keeps_flow {b = b1 + 120} 0 s1 (answered line (exact (op g.int g1.int))) k (run_list x.setting calls p st1 c1) (λ how st c. on_how how st c (run_list x.setting calls rest.ops)) (passes_next (run_list x.setting calls rest.ops))
+            (keeps_more (omega arith) (keeps_flow {b = b1 + factor} 0 s1 (answered line (exact (op g.int g1.int))) k (run_list x.setting calls p st1 c1) (λ how st c. on_how how st c (run_list x.setting calls rest.ops)) (passes_next (run_list x.setting calls rest.ops))
             (let more = a.more in
             answer_keeps line (op g.int g1.int) s1 st1 c1 (run_list x.setting calls p st1 c1) (omega arith) (omega arith) o.small g1.holds (λ j lt. g1.kept j (omega arith) ∙ g.kept j lt) w1 le1
             (o.meets from.value y.value y.code.next g.int g1.int st1 c1 g.small g1.small (fixed_above x (omega arith) g1.holds.fixed) (omega arith) a.value (g1.kept from.value lv ∙ g.result) g1.result))
@@ -151,7 +151,7 @@ module _ {x : Site} {calls : Calls} where
             (keeps_paid 1 s (m >>= λ u. answered line (f (Int g.int) u) >>= k) _ (a.goes_on (λ u. answered line (f (Int g.int) u) >>= k) s _
             (subst (λ z. Keeps x (Gives x left made.value base env) tr (b + factor * 1 + factor * 1) ((answered line z >>= k) s) (run_list x.setting calls (p ++ rest.ops) st c)) (sym (is g.int (pos number)))
             (keeps_is (runs_in_order x.setting calls p rest.ops st c)
-            (keeps_more (omega arith) (keeps_flow {b = b + 120} 0 s (answered line (exact (op g.int (pos number)))) k (run_list x.setting calls p st c) (λ how st c. on_how how st c (run_list x.setting calls rest.ops)) (passes_next (run_list x.setting calls rest.ops))
+            (keeps_more (omega arith) (keeps_flow {b = b + factor} 0 s (answered line (exact (op g.int (pos number)))) k (run_list x.setting calls p st c) (λ how st c. on_how how st c (run_list x.setting calls rest.ops)) (passes_next (run_list x.setting calls rest.ops))
             (answer_keeps line (op g.int (pos number)) s st c (run_list x.setting calls p st c) ln lb o.small g.holds g.kept w le
             (o.meets from.value number from.code.next g.int st c g.small a.small (fixed_above x ln g.holds.fixed) lv g.result))
             (λ v2 s2 how2 st2 c2 tr2 b2 g2 w2 le2. keeps_more (omega arith) (rest.keeps left env v2 s2 how2 st2 c2 tr2 b2 g2 w2 le2)))))))));

@@ -2,7 +2,7 @@
 use Rattle.std.specs.Prelude.{◌≡◌, ℕ, ◌+◌, ◌≤◌, true, List, [], ◌∷◌, ◌++◌, length, map}
 use Rattle.ir_form.specs.declared.unit.Routine.{Routine}
 use Rattle.ir_form.specs.declared.unit.Unit.{Unit as RegionUnit}
-use Rattle.ir_form.specs.Values.{defined_list}
+use Rattle.ir_form.specs.Values.{defined_list, marks_list}
 use Rattle.ir_form.specs.Valid.{Scope, with, given_list}
 use Rattle.ir_form.specs.Weight.{weight_list}
 use Rattle.ir_form.specs.Tests.{contains, fits_list}
@@ -38,11 +38,12 @@ pub record IsTidy (n : ℕ) (code : Code) : Type 0 where
   pub values : AreFrom n (defined_list code.ops)
   pub last : n + length (defined_list code.ops) ≡ code.next
 
--- how much it weighs more and how many values it defines more, at most
+-- how much it weighs more and how many values it defines more, at most; and it has no Guards more
 pub record Grows (most : ℕ) (code made : Code) : Type 0 where
   pub few : made.next ≤ code.next + most
   pub light : weight_list made.ops ≤ weight_list code.ops + most
   pub tidy : (n : ℕ) → IsTidy n code → IsTidy n made
+  pub unguarded : marks_list code.ops ≡ [] → marks_list made.ops ≡ []
   pub kept : (s : Scope) (v : ℕ) → Seen s code v → Seen s made v
 
 -- the values that have the addresses of variables

@@ -7,9 +7,9 @@ use Rattle.ir_form.specs.Meaning.{run_list}
 use Rattle.ir_form.specs.Plain.{Calls}
 use Rattle.ir_form.specs.State.{State as CodeState}
 use Rattle.ir_code.specs.declared.code.Code.{Code}
-use Rattle.tu_meaning.specs.Steps.{State, Step}
-use Rattle.tu_meaning.specs.Store.{Store}
-use Rattle.tu_meaning.specs.Values.{Value}
+use Rattle.tu_tree_meaning.specs.Steps.{State, Step}
+use Rattle.tu_tree_meaning.specs.Store.{Store}
+use Rattle.tu_tree_meaning.specs.Values.{Value}
 use Rattle.ir_build.specs.Keeps.{Site, Holds, Keeps, Gives, Tells}
 use Rattle.ir_build.specs.Code.{Made, Tested}
 

@@ -7,10 +7,10 @@ use Rattle.ir_form.specs.declared.plain.Width.TheVariants.{Word}
 use Rattle.ir_form.specs.Cells.{loaded, is_open_word}
 use Rattle.ir_form.specs.Place.{Setting}
 use Rattle.ir_form.specs.State.{State as CodeState, Env, How, Next, Throws, Over, Going as code_going, Run}
-use Rattle.tu_meaning.specs.Operators.{is_int}
-use Rattle.tu_meaning.specs.Steps.{Added, Outcome, Done, Raised, Going, State}
-use Rattle.tu_meaning.specs.Store.{Store}
-use Rattle.tu_meaning.specs.Values.{Value, Unset, Int, Truth, Variable}
+use Rattle.tu_tree_meaning.specs.Operators.{is_int}
+use Rattle.tu_tree_meaning.specs.Steps.{Added, Outcome, Done, Raised, Going, State}
+use Rattle.tu_tree_meaning.specs.Store.{Store}
+use Rattle.tu_tree_meaning.specs.Values.{Value, Unset, Int, Truth, Variable}
 use Rattle.tu_value.specs.Words.{word_of, word_of_int}
 use Rattle.tu_value.specs.Comparisons.{Comparison, compares}
 use Rattle.tu_value.specs.Meets.{HasFixed}
@@ -18,7 +18,11 @@ use Rattle.tu_value.specs.declared.pieces.Fixed.{Fixed}
 
 -- what a unit of the meaning costs at most
 abbrev pub factor : ℕ
-factor = 120
+factor = 1000
+
+-- what an exception may cost beside its units
+abbrev pub exception_most : ℕ
+exception_most = 200
 
 -- a variable that is declared: the word of the globals where it lies, and the value of region code that has its address
 pub record Named : Type 0 where
@@ -86,7 +90,7 @@ Ends P (Going s) how st c = how ≡ Over code_going
 -- an exception, which ends the program, may cost some more
 abbrev pub spare : {A : Type 0} → Outcome Store A → ℕ
 spare (Done a s) = 0
-spare (Raised kind line s) = 60
+spare (Raised kind line s) = exception_most
 spare (Going s) = 0
 
 -- the code did what the step adds, at a cost of at most so much and the factor for each unit

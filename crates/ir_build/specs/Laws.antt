@@ -10,8 +10,8 @@ use Rattle.ir_form.specs.State.{State}
 use Rattle.ir_code.specs.declared.code.Code.{Code}
 use Rattle.tu_token.specs.Rules.{r-expr}
 use Rattle.tu_token.specs.Syntax.{Of}
-use Rattle.tu_meaning.specs.Interpreter.{evaluate, condition}
-use Rattle.tu_meaning.specs.Store.{Store, by_copying}
+use Rattle.tu_tree_meaning.specs.Interpreter.{evaluate, condition}
+use Rattle.tu_tree_meaning.specs.Store.{Store, by_copying}
 use Rattle.tu_value.specs.Meets.{OnlyFrom}
 use Rattle.tu_value.specs.declared.pieces.Fixed.{Fixed}
 use Rattle.ir_build.specs.Built.{is_built, is_tested}
@@ -30,7 +30,7 @@ abbrev pub ConditionsDo : Type 0
 ConditionsDo = (x : Site) (calls : Calls) (depth line : ℕ) (e : Of r-expr) → is_tested (variables_of x.names) e ≡ true → (code : Code) → x.low ≤ code.next → TestDoes x calls (condition Store by_copying x.turns depth [] line e) code (test_expr x.fixed x.names line e code)
 
 -- Its values are those from the next one on, in their order, and it may stand wherever the fixed values and the addresses of the variables are seen.
--- It defines and weighs at most 12 for each token.
+-- It defines and weighs at most 12 for each token, and has no Guards.
 abbrev pub ExpressionsFit : Type 0
 ExpressionsFit = (u : RegionUnit) (r : Routine) (k : Fixed) (names : List Named) (line : ℕ) (e : Of r-expr) (code : Code) → Makes u r k names (12 * tokens_in e) code (code_expr k names line e code)
 

@@ -6,8 +6,8 @@ pub fn expressions_do()
     ensures conditions { ConditionsDo }
 {}
 
-/// It may stand wherever the variables are known, its values are in order, and it defines and weighs
-/// at most 12 for each token.
+/// It may stand wherever the variables are known, its values are in order, it has no Guards, and it
+/// defines and weighs at most 12 for each token.
 pub fn expressions_fit()
     ensures expressions { ExpressionsFit }
     ensures conditions { ConditionsFit }

@@ -1,16 +1,15 @@
 -- Pieces of code run as they are written.
-use Rattle.std.proofs.Common.{◌≡◌, ℕ, zero, suc, ◌+◌, List, [], ◌∷◌, ◌++◌, Bool, true, false, Option, Some, None, refl, sym, ap, ◌∙◌, arith}
+use Rattle.std.proofs.Common.{◌≡◌, ℕ, zero, suc, ◌+◌, List, [], ◌∷◌, ◌++◌, Bool, true, false, Option, Some, None, refl, ap, ◌∙◌, arith}
 use mathlib.Core.Former.{Count}
 use Rattle.rv_isa.specs.Arithmetic.{holds}
-use Rattle.rv_isa.specs.declared.instr.Relation.{Relation}
 use Rattle.tu_base.specs.declared.kind.Kind.{Kind}
 use Rattle.tu_base.specs.Kind.{kind_number}
-use Rattle.ir_form.specs.declared.op.Op.{Op, If', Case', Loop', Leave, Row_of-Op, end_of-Op, more_of-Op, items-the_row-Op, items_hidden-the_row-Op-0}
+use Rattle.ir_form.specs.declared.op.Op.{Op, If', Loop', Row_of-Op, end_of-Op, more_of-Op, items-the_row-Op, items_hidden-the_row-Op-0}
 use Rattle.ir_form.specs.Place.{Setting}
-use Rattle.ir_form.specs.State.{State, How, Next, Left, Ends, Throws, Over, Run, next, raised, over, chosen, on_how, on_run, needs, begins}
-use Rattle.ir_form.specs.Plain.{Calls, two}
+use Rattle.ir_form.specs.State.{State, How, Next, Left, Ends, Throws, Over, Run, next, chosen, on_how, on_run, needs, begins}
+use Rattle.ir_form.specs.Plain.{Calls}
 use Rattle.ir_form.specs.Meaning.{Cycle, gives, hands, looped, rounds, after_round, after_run, run, run_all, run_list}
-use Rattle.ir_code.specs.Pieces.{choice, once, raise, raise_unless, repeat}
+use Rattle.ir_code.specs.Pieces.{choice, once, raise, repeat}
 use Rattle.ir_code.specs.Laws.{RunsInOrder, ChoiceRuns, RaiseRuns, OnceRuns, RepeatRuns, done, raised_unless, cycle}
 
 -- what follows may be written in two ways

@@ -1,5 +1,5 @@
 -- One operation after the other: what each does to the state.
-use Rattle.std.proofs.Common.{◌≡◌, ℕ, suc, ◌+◌, ◌*◌, ◌<◌, List, [], ◌∷◌, ◌++◌, Bool, true, false, Option, Some, None, refl, sym, ap, ◌∙◌, subst, arith}
+use Rattle.std.proofs.Common.{◌≡◌, ℕ, ◌+◌, ◌*◌, ◌<◌, List, [], ◌∷◌, Bool, true, false, Some, refl, ap, ◌∙◌, arith}
 use Rattle.std.specs.Prelude.{◌==◌, if◌then◌else◌}
 use Rattle.std.proofs.lemmas.Bool.Decides.{nat_tests}
 use Rattle.tu_base.specs.declared.kind.Kind.{Kind}
@@ -14,7 +14,7 @@ use Rattle.ir_form.specs.Place.{Setting}
 use Rattle.ir_form.specs.State.{Env, State, Run, next, raised, chosen, on_run, needs, with_value}
 use Rattle.ir_form.specs.Plain.{Calls, two}
 use Rattle.ir_form.specs.Meaning.{run, run_list}
-use Rattle.ir_code.specs.Pieces.{constant, global, frame, compute, load, store, raise, raise_unless, choice}
+use Rattle.ir_code.specs.Pieces.{constant, global, frame, compute, load, store, raise_unless, choice}
 use Rattle.ir_code.specs.Laws.{done, raised_unless}
 use Rattle.ir_code.proofs.Running.{choice_runs, raise_runs}
 
@@ -118,8 +118,8 @@ module _ {g : Setting} {calls : Calls} where
   pub check_goes : (relation : Relation) (left right : ℕ) (kind : Kind) (line : ℕ) {v w : ℕ} {st : State} {c : ℕ} → st.env left ≡ Some v → st.env right ≡ Some w → holds relation v w ≡ true → Goes g calls (raise_unless relation left right kind line) st c st (c + 13)
   check_goes relation left right kind line {v} {w} {st} {c} e f h = record { is = check_runs _ _ relation left right v w kind line true st c e f h }
 
-  pub check_stops : (relation : Relation) (left right : ℕ) (kind : Kind) (line : ℕ) {v w : ℕ} {st : State} {c : ℕ} → st.env left ≡ Some v → st.env right ≡ Some w → holds relation v w ≡ false → Stops g calls (raise_unless relation left right kind line) st c (kind_number kind) line st (c + 19)
+  pub check_stops : (relation : Relation) (left right : ℕ) (kind : Kind) (line : ℕ) {v w : ℕ} {st : State} {c : ℕ} → st.env left ≡ Some v → st.env right ≡ Some w → holds relation v w ≡ false → Stops g calls (raise_unless relation left right kind line) st c (kind_number kind) line st (c + 33)
   check_stops relation left right kind line {v} {w} {st} {c} e f h = record { is = check_runs _ _ relation left right v w kind line false st c e f h ∙ ap (λ k. raised (kind_number kind) line st k) (together c) }
     where
-      together : (c : ℕ) → c + 13 + 6 ≡ c + 19
+      together : (c : ℕ) → c + 13 + 20 ≡ c + 33
       together c = omega arith

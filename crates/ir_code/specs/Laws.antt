@@ -25,7 +25,7 @@ ChoiceRuns = (g : Setting) (calls : Calls) (relation : Relation) (left right : �
 
 abbrev pub raised_unless : Bool → (kind line : ℕ) → State → ℕ → Run
 raised_unless true kind line st c = next st c
-raised_unless false kind line st c = raised kind line st (c + 6)
+raised_unless false kind line st c = raised kind line st (c + 20)
 
 abbrev pub RaiseRuns : Type 0
 RaiseRuns = (g : Setting) (calls : Calls) (relation : Relation) (left right : ℕ) (kind : Kind) (line : ℕ) (st : State) (c : ℕ) →

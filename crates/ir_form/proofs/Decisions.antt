@@ -1,22 +1,22 @@
 -- The tests decide what they stand for.
-use Rattle.std.proofs.Common.{◌≡◌, ◌≢◌, ℕ, ◌+◌, ◌<◌, ◌≤◌, ◌==◌, Bool, true, false, List, [], ◌∷◌, refl, ap, length, All, Contains, arith}
+use Rattle.std.proofs.Common.{◌≡◌, ◌≢◌, ℕ, ◌+◌, ◌*◌, ◌<◌, ◌≤◌, ◌==◌, Bool, true, false, List, [], ◌∷◌, refl, ap, length, All, Contains, arith}
 use Rattle.std.specs.Prelude.{◌||◌, nat_le, if◌then◌else◌, Option, Some, None, IsSomeAnd, slice_get, count_by}
 use Rattle.std.specs.List.{list_all}
 use Rattle.std.specs.Bool.{Decides}
 use Rattle.std.proofs.lemmas.Bool.Decides.{Decides-eqb, Decides-ltb, Decides-and, Decides-like, Decides-not, Decides-by_and, Decides-by_or, nat_tests}
 use Rattle.std.proofs.lemmas.List.Elements.{Decides-contains}
 use Rattle.ir_form.specs.declared.plain.Plain.{Plain}
-use Rattle.ir_form.specs.declared.plain.Plain.TheVariants.{Constant, Global, Heap, Frame, Text, Compute, Load, Store, Ask, Call, Raise, Take, Give}
+use Rattle.ir_form.specs.declared.plain.Plain.TheVariants.{Constant, Global, Heap, Frame, Text, Compute, Load, Store, Ask, Call, Raise, Throw, Take, Give}
 use Rattle.ir_form.specs.declared.op.Exit.{Exit}
 use Rattle.ir_form.specs.declared.op.Exit.TheVariants.{Routine as OfRoutine, Loop as OfLoop}
-use Rattle.ir_form.specs.declared.op.Op.{Op, Plain as Simple, If', Case', Loop', Leave, Row_of-Op, end_of-Op, more_of-Op, Row_of-Arm, end_of-Arm, more_of-Arm}
+use Rattle.ir_form.specs.declared.op.Op.{Op, Plain as Simple, If', Case', Loop', Guard', Leave, Row_of-Op, end_of-Op, more_of-Op, Row_of-Arm, end_of-Arm, more_of-Arm}
 use Rattle.ir_form.specs.declared.op.Region.{Region}
 use Rattle.ir_form.specs.declared.op.Arm.{Arm}
 use Rattle.ir_form.specs.declared.unit.Routine.{Routine}
 use Rattle.ir_form.specs.declared.unit.Unit.{Unit as Program}
-use Rattle.ir_form.specs.Values.{used, given, values_of}
-use Rattle.ir_form.specs.Valid.{Scope, with, looped, outermost, Sees, IsCall, IsPlaced, taken_at, leaves_last, leaves_list, given_all, given_list, IsClosed, Fits, FitsAll, FitsArms, FitsList, FitsRegion, IsOnce, IsValidRoutine, IsMain}
-use Rattle.ir_form.specs.Tests.{contains, sees, may_call, call_fits, is_call, is_placed, is_number, is_taken, closes, fits, fits_all, fits_arms, fits_list, fits_region, fits_each, is_once, is_valid_routine, is_main}
+use Rattle.ir_form.specs.Values.{used, given, values_of, marks_of}
+use Rattle.ir_form.specs.Valid.{Scope, with, looped, guarded, outermost, Sees, IsNew, IsCall, IsPlaced, taken_at, leaves_last, leaves_list, given_all, given_list, IsClosed, Fits, FitsAll, FitsArms, FitsList, FitsRegion, IsOnce, IsValidRoutine, IsMain}
+use Rattle.ir_form.specs.Tests.{contains, sees, is_new, may_call, call_fits, is_call, is_placed, is_number, is_taken, closes, fits, fits_all, fits_arms, fits_list, fits_region, fits_each, is_once, is_valid_routine, is_main}
 
 implies : {P Q : Type 0} (b c : Bool) → Decides b P → Decides c Q → Decides (b || c) (¬ P → Q)
 implies true c h k = (λ e n. absurd (n (h.0 refl)), λ f. refl)
@@ -27,6 +27,9 @@ at_most a b = (λ e. grind (arith, nat_tests), λ h. grind (arith, nat_tests))
 
 decides_contains : (vs : List ℕ) (v : ℕ) → Decides (contains vs v) (Contains vs v)
 decides_contains vs v = Decides-contains vs v (contains vs v) (Decides-by_or (λ x. x == v) (λ x. x ≡ v) (λ xs. contains xs v) (λ x. Decides-eqb x v) refl (λ _ _. refl) vs)
+
+pub decides_new : (s : Scope) (mark : ℕ) → Decides (is_new s mark) (IsNew s mark)
+decides_new s mark = Decides-not _ (decides_contains s.marks mark)
 
 pub decides_sees : (s : Scope) (wanted : List ℕ) → Decides (sees s wanted) (Sees s wanted)
 decides_sees s wanted = Decides-by_and (contains s.values) (Contains s.values) (sees s) (decides_contains s.values) refl (λ _ _. refl) wanted
@@ -57,6 +60,7 @@ decides_placed u r (Store width at from) = always
 decides_placed u r (Ask to service) = always
 decides_placed u r (Call routine arguments to line) = decides_called r arguments to (slice_get u.routines routine)
 decides_placed u r (Raise kind line) = always
+decides_placed u r (Throw kind line) = always
 decides_placed u r (Take to words line) = Decides-eqb r.depth 0
 decides_placed u r (Give words) = Decides-eqb r.depth 0
 
@@ -88,6 +92,11 @@ mutual
   decides_fits u r s (Loop' marked start parameters _ ops results to) =
       Decides-like _ (λ p. (p.0, p.1.0, p.1.1)) (λ p. (p.0, (p.1, p.2)))
       (Decides-and _ _ (decides_sees s start) (Decides-and _ _ (decides_all u r (with (looped s (length to)) parameters) ops) (decides_closes s (length start) parameters (given_all ops) (leaves_last false ops) results (length parameters))))
+  decides_fits u r s (Guard' mark a _ ops results b _ others others_results to) =
+      Decides-like _ (λ p. (p.0, p.1.0.0, p.1.0.1, p.1.1.0, p.1.1.1)) (λ p. (p.0, ((p.1, p.2), (p.3, p.4))))
+      (Decides-and _ _ (decides_new s mark)
+      (Decides-and _ _ (Decides-and _ _ (decides_all u r (with (guarded s mark) a) ops) (decides_closes s 0 a (given_all ops) (leaves_last false ops) results (length to)))
+      (Decides-and _ _ (decides_all u r (with s b) others) (decides_closes s 2 b (given_all others) (leaves_last false others) others_results (length to)))))
   decides_fits u r s (Leave exit gives) = Decides-and _ _ (decides_sees s gives) (decides_taken r s exit (length gives))
 
   decides_all : (u : Program) (r : Routine) (s : Scope) {n : _} (ops : Row_of-Op n) → Decides (fits_all u r s ops) (FitsAll u r s ops)
@@ -119,7 +128,7 @@ decides_routine : (u : Program) (r : Routine) → Decides (is_valid_routine u r)
 decides_routine u r =
     Decides-like _ (λ p. record { depth = p.0.0; small = p.0.1; room = p.1.0; once = p.1.1.0; body = p.1.1.1 }) (λ (k : IsValidRoutine u r). ((k.depth, k.small), (k.room, (k.once, k.body))))
     (Decides-and _ _ (Decides-and _ _ (at_most r.depth 8) (implies _ _ (Decides-eqb r.depth 0) (at_most r.room 512)))
-    (Decides-and _ _ (at_most (r.words + length (values_of r) + 32) r.room) (Decides-and _ _ (decides_once (values_of r) (values_of r)) (decides_region u r outermost (length r.body.parameters) r.results r.body))))
+    (Decides-and _ _ (at_most (r.words + length (values_of r) + 24 * length (marks_of r) + 32) r.room) (Decides-and _ _ (decides_once (values_of r) (values_of r)) (decides_region u r outermost (length r.body.parameters) r.results r.body))))
 
 pub decides_routines : (u : Program) (rs : List Routine) → Decides (list_all (is_valid_routine u) rs) (All (IsValidRoutine u) rs)
 decides_routines u rs = Decides-by_and (is_valid_routine u) (IsValidRoutine u) (list_all (is_valid_routine u)) (decides_routine u) refl (λ _ _. refl) rs

@@ -9,7 +9,9 @@ pub mod Decisions
 mod Steady
 mod Sound
 mod Rows
+mod GuardRows
 mod Onces
+mod GuardSums
 mod Fitting
 mod ValidLists
 mod ValidRows

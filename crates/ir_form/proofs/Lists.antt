@@ -3,15 +3,15 @@ use Rattle.std.proofs.Common.{◌≡◌, ℕ, List, [], ◌∷◌, ◌++◌, ref
 use Rattle.std.specs.Prelude.{◌&&◌}
 use mathlib.Core.Former.{Count}
 use Rattle.rv_isa.specs.declared.instr.Relation.{Relation}
-use Rattle.ir_form.specs.declared.op.Op.{Op, If', Case', Loop', Row_of-Op, end_of-Op, more_of-Op, Row_of-Arm, end_of-Arm, more_of-Arm, items-the_row-Op, items_hidden-the_row-Op-0, items-the_row-Arm, items_hidden-the_row-Arm-1, items_shown-the_row-Op-0}
-use Rattle.ir_form.specs.declared.op.Op.TheViews.{If, Case, Loop}
+use Rattle.ir_form.specs.declared.op.Op.{Op, If', Case', Loop', Guard', Row_of-Op, end_of-Op, more_of-Op, Row_of-Arm, end_of-Arm, more_of-Arm, items-the_row-Op, items_hidden-the_row-Op-0, items-the_row-Arm, items_hidden-the_row-Arm-1, items_shown-the_row-Op-0}
+use Rattle.ir_form.specs.declared.op.Op.TheViews.{If, Case, Loop, Guard}
 use Rattle.ir_form.specs.declared.op.Region.{Region}
 use Rattle.ir_form.specs.declared.op.Arm.{Arm}
 use Rattle.ir_form.specs.declared.unit.Routine.{Routine}
 use Rattle.ir_form.specs.declared.unit.Unit.{Unit as Program}
-use Rattle.ir_form.specs.Values.{given, defined, defined_all, defined_arms, defined_list, defined_region, defined_each}
-use Rattle.ir_form.specs.Valid.{Scope, with, looped, leaves, leaves_last, leaves_list, given_all, given_list}
-use Rattle.ir_form.specs.Tests.{sees, closes, fits, fits_all, fits_arms, fits_list, fits_region, fits_each}
+use Rattle.ir_form.specs.Values.{given, defined, defined_all, defined_arms, defined_list, defined_region, defined_each, marks, marks_all, marks_arms, marks_list, marks_each}
+use Rattle.ir_form.specs.Valid.{Scope, with, looped, guarded, leaves, leaves_last, leaves_list, given_all, given_list}
+use Rattle.ir_form.specs.Tests.{sees, is_new, closes, fits, fits_all, fits_arms, fits_list, fits_region, fits_each}
 
 both : {a b c d : Bool} → a ≡ b → c ≡ d → (a && c) ≡ (b && d)
 both {a} {b} {c} {d} e f = ap (λ z. z && c) e ∙ ap (λ z. b && z) f
@@ -23,10 +23,12 @@ abbrev first_row : Op → (n : Count) × Row_of-Op n
 first_row (If' relation left right _ _ x _ _ _ y _ to) = (_, x)
 first_row (Case' value _ arms _ _ x _ to) = (_, x)
 first_row (Loop' marked start _ _ x _ to) = (_, x)
+first_row (Guard' mark _ _ x _ _ _ y _ to) = (_, x)
 first_row _ = (_, end_of-Op)
 
 abbrev second_row : Op → (n : Count) × Row_of-Op n
 second_row (If' relation left right _ _ x _ _ _ y _ to) = (_, y)
+second_row (Guard' mark _ _ x _ _ _ y _ to) = (_, y)
 second_row _ = (_, end_of-Op)
 
 defined_row : {k : _} (row : Row_of-Op k) → defined_all row ≡ defined_list (items-the_row-Op k row)
@@ -74,6 +76,41 @@ defined-Case value arms a to =
     let y : defined_arms (arm_row op).1 ≡ defined_each arms = arms_row (arm_row op).1 ∙ ap defined_each (items_hidden-the_row-Arm-1 arms) in
     ap (λ z. z ++ ((a.parameters ++ defined_all (first_row op).1) ++ to)) y ∙ ap (λ z. defined_each arms ++ ((a.parameters ++ z) ++ to)) x
 
+pub defined-Guard : (mark : ℕ) (a b : Region) (to : List ℕ) → defined (Guard mark a b to) ≡ defined_region a ++ (defined_region b ++ to)
+defined-Guard mark a b to =
+    let op : Op = Guard mark a b to in
+    let x : defined_all (first_row op).1 ≡ defined_list a.ops = defined_row (first_row op).1 ∙ ap defined_list (items_hidden-the_row-Op-0 a.ops) in
+    let y : defined_all (second_row op).1 ≡ defined_list b.ops = defined_row (second_row op).1 ∙ ap defined_list (items_hidden-the_row-Op-0 b.ops) in
+    ap (λ z. (a.parameters ++ z) ++ ((b.parameters ++ defined_all (second_row op).1) ++ to)) x ∙ ap (λ z. defined_region a ++ ((b.parameters ++ z) ++ to)) y
+
+-- the marks of Guards
+
+marks_row : {k : _} (row : Row_of-Op k) → marks_all row ≡ marks_list (items-the_row-Op k row)
+marks_row end_of-Op = refl
+marks_row (more_of-Op op ops) = ap (λ x. marks op ++ x) (marks_row ops)
+
+marks_arm_row : {k : _} (row : Row_of-Arm k) → marks_arms row ≡ marks_each (items-the_row-Arm k row)
+marks_arm_row end_of-Arm = refl
+marks_arm_row (more_of-Arm ranges parameters x ops results arms) = joined (marks_row ops ∙ ap marks_list (sym (items_shown-the_row-Op-0 x ops))) (marks_arm_row arms)
+
+pub marks-If : (relation : Relation) (left right : ℕ) (a b : Region) (to : List ℕ) → marks (If relation left right a b to) ≡ marks_list a.ops ++ marks_list b.ops
+marks-If relation left right a b to =
+    let op : Op = If relation left right a b to in
+    joined (marks_row (first_row op).1 ∙ ap marks_list (items_hidden-the_row-Op-0 a.ops)) (marks_row (second_row op).1 ∙ ap marks_list (items_hidden-the_row-Op-0 b.ops))
+
+pub marks-Loop : (marked : Bool) (start : List ℕ) (a : Region) (to : List ℕ) → marks (Loop marked start a to) ≡ marks_list a.ops
+marks-Loop marked start a to = marks_row (first_row (Loop marked start a to)).1 ∙ ap marks_list (items_hidden-the_row-Op-0 a.ops)
+
+pub marks-Guard : (mark : ℕ) (a b : Region) (to : List ℕ) → marks (Guard mark a b to) ≡ mark ∷ (marks_list a.ops ++ marks_list b.ops)
+marks-Guard mark a b to =
+    let op : Op = Guard mark a b to in
+    ap (λ z. mark ∷ z) (joined (marks_row (first_row op).1 ∙ ap marks_list (items_hidden-the_row-Op-0 a.ops)) (marks_row (second_row op).1 ∙ ap marks_list (items_hidden-the_row-Op-0 b.ops)))
+
+pub marks-Case : (value : ℕ) (arms : List Arm) (a : Region) (to : List ℕ) → marks (Case value arms a to) ≡ marks_each arms ++ marks_list a.ops
+marks-Case value arms a to =
+    let op : Op = Case value arms a to in
+    joined (marks_arm_row (arm_row op).1 ∙ ap marks_each (items_hidden-the_row-Arm-1 arms)) (marks_row (first_row op).1 ∙ ap marks_list (items_hidden-the_row-Op-0 a.ops))
+
 closes_row : (u : Program) (r : Routine) (s t : Scope) (handed taken : ℕ) (parameters results : List ℕ) (ops : List Op) {k : _} (row : Row_of-Op k) → items-the_row-Op k row ≡ ops
     → (fits_all u r (with s parameters) row && closes t handed parameters (given_all row) (leaves_last false row) results taken)
     ≡ (fits_list u r (with s parameters) ops && closes t handed parameters (given_list ops) (leaves_list false ops) results taken)
@@ -98,6 +135,14 @@ pub fits-Loop : (u : Program) (r : Routine) (s : Scope) (marked : Bool) (start :
 fits-Loop u r s marked start a to =
     let op : Op = Loop marked start a to in
     ap (λ z. sees s start && z) (closes_row u r (looped s (length to)) s (length start) (length a.parameters) a.parameters a.results a.ops (first_row op).1 (items_hidden-the_row-Op-0 a.ops))
+
+pub fits-Guard : (u : Program) (r : Routine) (s : Scope) (mark : ℕ) (a b : Region) (to : List ℕ)
+    → fits u r s (Guard mark a b to) ≡ (is_new s mark && (fits_region u r (guarded s mark) 0 (length to) a && fits_region u r s 2 (length to) b))
+fits-Guard u r s mark a b to =
+    let op : Op = Guard mark a b to in
+    let x = closes_row u r (guarded s mark) s 0 (length to) a.parameters a.results a.ops (first_row op).1 (items_hidden-the_row-Op-0 a.ops) in
+    let y = closes_row u r s s 2 (length to) b.parameters b.results b.ops (second_row op).1 (items_hidden-the_row-Op-0 b.ops) in
+    ap (λ z. is_new s mark && z) (both x y)
 
 each_row : (u : Program) (r : Routine) (s : Scope) (taken : ℕ) {k : _} (row : Row_of-Arm k) → fits_arms u r s taken row ≡ fits_each u r s taken (items-the_row-Arm k row)
 each_row u r s taken end_of-Arm = refl

@@ -22,24 +22,24 @@ use Rattle.ir_form.specs.Units.{Meant, meaning, unit_run}
 abbrev place : Place
 place = record { globals_at = 65536; texts_at = 65536 }
 
-abbrev region : List Op → List ℕ → Region
+abbrev pub region : List Op → List ℕ → Region
 region ops results = record { parameters = []; ops = ops; results = results }
 
-abbrev main : List Op → Routine
+abbrev pub main : List Op → Routine
 main ops = record { body = region ops []; room = 64; words = 0; depth = 0; results = 0 }
 
-abbrev unit : List Routine → RegionUnit
+abbrev pub unit : List Routine → RegionUnit
 unit routines = record { globals = 1; main = 0; routines = routines; texts = [] }
 
 -- what it means without input and files
-abbrev means : RegionUnit → ℕ → ℕ → Meant
+abbrev pub means : RegionUnit → ℕ → ℕ → Meant
 means u t s = meaning u place [] nothing t s
 
-abbrev runs : RegionUnit → ℕ → ℕ → Run
+abbrev pub runs : RegionUnit → ℕ → ℕ → Run
 runs u t s = unit_run u place [] nothing t s
 
 -- puts a value as a byte
-abbrev shows : ℕ → List Op
+abbrev pub shows : ℕ → List Op
 shows x = Plain (Global 90 0) ∷ Plain (Store one_byte 90 x) ∷ Plain (Constant 91 1) ∷ Plain (Ask 92 (PutConsole 90 91)) ∷ []
 
 -- the sum of 1 to 4, by a loop of the program that is left in its fifth round
@@ -116,7 +116,7 @@ unfolding unit_run Rattle.ir_form.specs.declared.op.Op.TheBlock.hidden-the_row-O
 called_once = (refl, refl)
 
 -- the end of memory
-abbrev end : ℕ
+abbrev pub end : ℕ
 end = 65536 + 4 * (1 + 4194304 + 8392704)
 
 -- An exception hands back the caller's values, rooms and frame, and the array and the frame of the routine are closed. The lowest byte of the

@@ -6,13 +6,13 @@ use Rattle.std.specs.List.{AllByRecursion as Each}
 use Rattle.std.proofs.lemmas.Option.{slice_get-map}
 use Rattle.std.proofs.lemmas.List.Elements.{All-from_recursion, recursion_from_All, All-weaker, All-contains, All-contains_itself, All-append}
 use Rattle.ir_form.specs.declared.plain.Plain.{Plain as PlainOp}
-use Rattle.ir_form.specs.declared.plain.Plain.TheVariants.{Constant, Global, Heap, Frame, Text, Compute, Load, Store, Ask, Call, Raise, Take, Give}
-use Rattle.ir_form.specs.declared.op.Op.{Op, Plain as Simple, If', Case', Loop', Leave, Row_of-Op, end_of-Op, more_of-Op, Row_of-Arm, end_of-Arm, more_of-Arm}
+use Rattle.ir_form.specs.declared.plain.Plain.TheVariants.{Constant, Global, Heap, Frame, Text, Compute, Load, Store, Ask, Call, Raise, Throw, Take, Give}
+use Rattle.ir_form.specs.declared.op.Op.{Op, Plain as Simple, If', Case', Loop', Guard', Leave, Row_of-Op, end_of-Op, more_of-Op, Row_of-Arm, end_of-Arm, more_of-Arm}
 use Rattle.ir_form.specs.declared.unit.Routine.{Routine}
 use Rattle.ir_form.specs.declared.unit.Unit.{Unit as RegionUnit}
 use Rattle.ir_form.specs.Units.{head_of}
-use Rattle.ir_form.specs.Values.{used, made, given, defined, defined_all, defined_arms, defined_list, values_of}
-use Rattle.ir_form.specs.Valid.{Scope, with, looped, outermost, Sees, IsCall, IsPlaced, IsClosed, given_all, given_list, leaves_last, leaves_list, Fits, FitsAll, FitsArms, FitsList, IsValidRoutine, IsMain, IsValid}
+use Rattle.ir_form.specs.Values.{used, made, given, defined, defined_all, defined_arms, defined_list, values_of, marks_of}
+use Rattle.ir_form.specs.Valid.{Scope, with, looped, guarded, outermost, Sees, IsCall, IsPlaced, IsClosed, given_all, given_list, leaves_last, leaves_list, Fits, FitsAll, FitsArms, FitsList, IsValidRoutine, IsMain, IsValid}
 use Rattle.ir_form.specs.Lawful.{MayCall, IsThere, IsSound, IsMainHead, IsSoundUnit, depths_of, plains, plains_all, plains_arms, plains_list, numbers, numbers_all, numbers_arms, numbers_list, routine_numbers}
 use Rattle.ir_form.proofs.Each.{both, front, back}
 
@@ -44,6 +44,7 @@ there u r (Ask to service) h = tt
 there u r (Call routine arguments to line) h =
     subst (λ o. IsSomeAnd o (MayCall r.depth)) (sym (slice_get-map (λ (x : Routine). x.depth) u.routines routine)) (callee_there r arguments to (slice_get u.routines routine) h)
 there u r (Raise kind line) h = tt
+there u r (Throw kind line) h = tt
 there u r (Take to number line) h = h
 there u r (Give number) h = h
 
@@ -67,6 +68,7 @@ module _ (P : ℕ → Type 0) (u : RegionUnit) (r : Routine) where
   op_gives (If' relation left right p a ops results q b others others_results to) h = back P (q ++ defined_all others) to (back P (p ++ defined_all ops) ((q ++ defined_all others) ++ to) h)
   op_gives (Case' value a arms p b ops results to) h = back P (p ++ defined_all ops) to (back P (defined_arms arms) ((p ++ defined_all ops) ++ to) h)
   op_gives (Loop' marked start p a ops results to) h = back P (p ++ defined_all ops) to h
+  op_gives (Guard' mark p a ops results q b others others_results to) h = back P (q ++ defined_all others) to (back P (p ++ defined_all ops) ((q ++ defined_all others) ++ to) h)
   op_gives (Leave exit gives) h = tt
 
   all_give : {k : _} (ops : Row_of-Op k) → Each P (defined_all ops) → Each P (given_all ops)
@@ -106,6 +108,13 @@ module _ (P : ℕ → Type 0) (u : RegionUnit) (r : Routine) where
         let inner : Scope = looped s (length to) in
         let body = region_numbers p (defined_all ops) (numbers_all ops) s (length start) (given_all ops) (leaves_last false ops) results (length p) k (front P x to h) (all_give ops) (λ n i. all_numbers (with inner p) ops (record { known = n.known }) i f.1) f.2 in
         both P start _ (seen s start k f.0) (both P (p ++ (numbers_all ops ++ results)) to body (back P x to h))
+    op_numbers s (Guard' mark p a ops results q b others others_results to) k h f =
+        let x = p ++ defined_all ops in let y = q ++ defined_all others in
+        let inner : Scope = guarded s mark in
+        let rest = back P x (y ++ to) h in
+        let first = region_numbers p (defined_all ops) (numbers_all ops) s 0 (given_all ops) (leaves_last false ops) results (length to) k (front P x (y ++ to) h) (all_give ops) (λ n i. all_numbers (with inner p) ops (record { known = n.known }) i f.1) f.2 in
+        let second = region_numbers q (defined_all others) (numbers_all others) s 2 (given_all others) (leaves_last false others) others_results (length to) k (front P y to rest) (all_give others) (λ n i. all_numbers (with s q) others n i f.3) f.4 in
+        both P (p ++ (numbers_all ops ++ results)) _ first (both P (q ++ (numbers_all others ++ others_results)) to second (back P y to rest))
     op_numbers s (Leave exit gives) k h f = seen s gives k f.0
 
     all_numbers : (s : Scope) {n : _} (ops : Row_of-Op n) → Known s → Each P (defined_all ops) → FitsAll u r s ops → Each P (numbers_all ops)
@@ -133,6 +142,7 @@ module _ (P : ℕ → Type 0) (u : RegionUnit) (r : Routine) where
     op_there s (If' relation left right p a ops results q b others others_results to) f = both There (plains_all ops) (plains_all others) (all_there (with s p) ops f.1) (all_there (with s q) others f.3)
     op_there s (Case' value a arms p b ops results to) f = both There (plains_all ops) (plains_arms arms) (all_there (with s p) ops f.2) (arms_there s (length to) arms f.1)
     op_there s (Loop' marked start p a ops results to) f = all_there (with (looped s (length to)) p) ops f.1
+    op_there s (Guard' mark p a ops results q b others others_results to) f = both There (plains_all ops) (plains_all others) (all_there (with (guarded s mark) p) ops f.1) (all_there (with s q) others f.3)
     op_there s (Leave exit gives) f = tt
 
     all_there : (s : Scope) {n : _} (ops : Row_of-Op n) → FitsAll u r s ops → Each There (plains_all ops)
@@ -147,7 +157,7 @@ module _ (P : ℕ → Type 0) (u : RegionUnit) (r : Routine) where
   list_there s [] f = tt
   list_there s (op ∷ ops) f = both There (plains op) (plains_list ops) (op_there s op f.0) (list_there (with s (given op)) ops f.1)
 
-routine_sound : (u : RegionUnit) (r : Routine) → IsValidRoutine u r → IsSound u.globals (length u.texts) (depths_of u.routines) (head_of r) (plains_list r.body.ops) (routine_numbers r)
+routine_sound : (u : RegionUnit) (r : Routine) → IsValidRoutine u r → IsSound u.globals (length u.texts) (depths_of u.routines) (head_of r) (plains_list r.body.ops) (routine_numbers r) (marks_of r)
 routine_sound u r v =
     let V = values_of r in let P : ℕ → Type 0 = λ (x : ℕ). Contains V x in
     let ops = r.body.ops in let p = r.body.parameters in
@@ -160,6 +170,8 @@ routine_sound u r v =
       there = All-from_recursion (There P u r) (plains_list ops) (list_there P u r (with outermost p) ops v.body.0);
       values = V;
       known = All-from_recursion P (routine_numbers r) known;
+      marks = marks_of r;
+      marked = All-contains_itself (marks_of r);
       few = v.room;
     }
 
@@ -171,5 +183,5 @@ pub valid_sound : (u : RegionUnit) → IsValid u → u.globals ≤ 4259840 → I
 valid_sound u v le = record {
   globals = le;
   main = main_sound (slice_get u.routines u.main) v.main;
-  routines = All-weaker (IsValidRoutine u) (λ r. IsSound u.globals (length u.texts) (depths_of u.routines) (head_of r) (plains_list r.body.ops) (routine_numbers r)) (λ r h. routine_sound u r h) u.routines v.routines;
+  routines = All-weaker (IsValidRoutine u) (λ r. IsSound u.globals (length u.texts) (depths_of u.routines) (head_of r) (plains_list r.body.ops) (routine_numbers r) (marks_of r)) (λ r h. routine_sound u r h) u.routines v.routines;
 }

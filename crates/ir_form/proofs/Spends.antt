@@ -1,11 +1,11 @@
 -- The turns and other rounds that begin are paid for.
 use Rattle.std.proofs.Common.{◌≡◌, ℕ, zero, suc, ◌+◌, ◌-◌, ◌≤◌, ◌⊎◌, inl, inr, List, [], ◌∷◌, Option, Some, None, Bool, true, false, refl, sym, subst, arith}
-use Rattle.std.specs.Prelude.{nat_le, if◌then◌else◌, slice_get}
+use Rattle.std.specs.Prelude.{nat_le, ◌&&◌, if◌then◌else◌, slice_get}
 use Rattle.rv_image.specs.Streams.{Folder, AtItsEnd, StoppedBy, Served, Finishes, Replies, served}
 use Rattle.rv_isa.specs.Arithmetic.{holds, signed_of}
 use Rattle.ir_form.specs.declared.plain.Plain.{Plain}
-use Rattle.ir_form.specs.declared.plain.Plain.TheVariants.{Constant, Global, Heap, Frame, Text, Compute, Load, Store, Ask, Call, Raise, Take, Give}
-use Rattle.ir_form.specs.declared.op.Op.{Op, Plain as Simple, If', Case', Loop', Leave, Row_of-Op, end_of-Op, more_of-Op, Row_of-Arm, end_of-Arm, more_of-Arm}
+use Rattle.ir_form.specs.declared.plain.Plain.TheVariants.{Constant, Global, Heap, Frame, Text, Compute, Load, Store, Ask, Call, Raise, Throw, Take, Give}
+use Rattle.ir_form.specs.declared.op.Op.{Op, Plain as Simple, If', Case', Loop', Guard', Leave, Row_of-Op, end_of-Op, more_of-Op, Row_of-Arm, end_of-Arm, more_of-Arm}
 use Rattle.ir_form.specs.declared.op.Exit.{Exit}
 use Rattle.ir_form.specs.declared.op.Exit.TheVariants.{Routine as the_routine, Loop as the_loop}
 use Rattle.ir_form.specs.declared.op.Range.{Range}
@@ -13,10 +13,10 @@ use Rattle.ir_form.specs.declared.unit.Routine.{Routine}
 use Rattle.ir_form.specs.declared.unit.Unit.{Unit as RegionUnit}
 use Rattle.ir_form.specs.Place.{Place, Setting}
 use Rattle.ir_form.specs.Cells.{memory_of, loaded, stored}
-use Rattle.ir_form.specs.State.{State, Ended, Stopped, Going, Stuck, How, Next, Left, Ends, Throws, Over, Run, next, raised, on_how, on_run, needs, chosen, words_of, bound, binds, turn_from, other_from, begins, begun}
-use Rattle.ir_form.specs.Cost.{plain_price, round_price}
-use Rattle.ir_form.specs.Plain.{Calls, most_rooms, storage, defines, stack_top, with_array, service_of, is_accepted, replied, does, act}
-use Rattle.ir_form.specs.Meaning.{takes_words, hands, gives, Cycle, after_round, rounds, looped, leaves, is_in_any, picks, run, run_all, run_arms, run_list, ended}
+use Rattle.ir_form.specs.State.{State, Ended, Stopped, Going, Stuck, How, Next, Left, Ends, Throws, Over, Run, next, raised, over, on_how, on_run, needs, chosen, words_of, bound, binds, turn_from, other_from, begins, begun}
+use Rattle.ir_form.specs.Cost.{plain_price, round_price, guard_price}
+use Rattle.ir_form.specs.Plain.{Calls, most_rooms, storage, defines, stack_top, with_array, service_of, is_accepted, replied, does, act, without_array}
+use Rattle.ir_form.specs.Meaning.{takes_words, hands, gives, Cycle, after_round, rounds, looped, leaves, is_in_any, picks, run, run_all, run_arms, run_list, ended, takes_up, caught, caught_run, opens}
 use Rattle.ir_form.specs.Units.{Head, opened, enters_at, restored, returned, called, start, concluded, head_of, body_of, calls_to, calls_within, runs_main, setting_of, unit_run, meaning, IsPaidWhereGoing}
 
 -- where a run needs more than it was given, no turn or no other round is left
@@ -105,6 +105,10 @@ takes_spends : (b : Bool) (g : Setting) (x line w : ℕ) (st : State) (c e : ℕ
 takes_spends true g x line w st c e le = stays _ st _ c e refl refl tt le
 takes_spends false g x line w st c e le = stays _ st _ c e refl refl tt le
 
+raised_by_spends : (b : Bool) (kind line : ℕ) (st : State) (c e : ℕ) → c ≤ e → Spends st c (if b then raised kind line st e else over Stuck st e)
+raised_by_spends true kind line st c e le = stays _ st _ c e refl refl tt le
+raised_by_spends false kind line st c e le = stays _ st _ c e refl refl tt le
+
 does_spends : (g : Setting) (calls : Calls) → CallsSpend calls → (p : Plain) (st : State) (c e : ℕ) → c + 1 ≤ e → Spends st c (does g calls p st e)
 does_spends g calls h (Constant x word) st c e le = stays _ st _ c e refl refl tt (omega arith)
 does_spends g calls h (Global x word) st c e le = stays _ st _ c e refl refl tt (omega arith)
@@ -121,6 +125,8 @@ does_spends g calls h (Ask x service) st c e le =
     needs_spends (service_of st.env service) st c e _ (omega arith) (λ what. needs_spends (if is_accepted g st.cells what then Some what else None) st c e _ (omega arith) (λ a. replied_spends x (served g.folder (memory_of st.cells) a st.world) st c e (omega arith)))
 does_spends g calls h (Call k arguments to line) st c e le = h.spend k arguments to line st c e le
 does_spends g calls h (Raise kind line) st c e le = stays _ st _ c e refl refl tt (omega arith)
+does_spends g calls h (Throw kind line) st c e le =
+    needs_spends (st.env kind) st c e _ (omega arith) (λ k. needs_spends (st.env line) st c e _ (omega arith) (λ l. raised_by_spends (nat_le 1 k && nat_le k 21) k l st c e (omega arith)))
 does_spends g calls h (Take x words line) st c e le =
     needs_spends (st.env words) st c e _ (omega arith) (λ w. takes_spends (nat_le (st.rooms + w) most_rooms) g x line w st c e (omega arith))
 does_spends g calls h (Give words) st c e le = needs_spends (st.env words) st c e _ (omega arith) (λ w. stays _ st _ c e refl refl tt (omega arith))
@@ -137,6 +143,7 @@ price_positive (Store width at from) = omega arith
 price_positive (Ask to service) = omega arith
 price_positive (Call routine arguments to line) = omega arith
 price_positive (Raise kind line) = omega arith
+price_positive (Throw kind line) = omega arith
 price_positive (Take to words line) = omega arith
 price_positive (Give words) = omega arith
 
@@ -192,6 +199,27 @@ leaves_used : (exit : Exit) (ws : List ℕ) (st : State) → IsUsedUp (leaves ex
 leaves_used the_routine ws st = tt
 leaves_used (the_loop k) ws st = tt
 
+-- an exception that is taken
+pub takes_up_spends : (g : Setting) (mark : ℕ) (to : List ℕ) (kind line : ℕ) → GoesOn (takes_up g mark to kind line)
+takes_up_spends g mark to kind line st c e le =
+    needs_spends (st.marks mark) st c e _ le (λ taken.
+    let su : State = without_array g (st.taken - taken) st in
+    let b = binds_spend to (kind ∷ line ∷ []) su c e le in
+    record { turns = b.turns; others = b.others; paid = b.paid; used = b.used })
+
+caught_spends : (g : Setting) (mark : ℕ) (to : List ℕ) (handler : State → ℕ → Run) → GoesOn handler → (how : How) → GoesOnFrom how (caught g mark to handler how)
+caught_spends g mark to handler h Next st c e u le = stays _ st _ c e refl refl tt le
+caught_spends g mark to handler h (Left k ws) st c e u le = stays _ st _ c e refl refl tt le
+caught_spends g mark to handler h (Ends ws) st c e u le = stays _ st _ c e refl refl tt le
+caught_spends g mark to handler h (Throws kind line) st c e u le = run_spends st c _ handler (takes_up_spends g mark to kind line st c (e + guard_price) (omega arith)) h
+caught_spends g mark to handler h (Over v) st c e u le = stays _ st _ c e refl refl u le
+
+guard_spends : (g : Setting) (mark : ℕ) (to : List ℕ) (body handler : State → ℕ → Run) → GoesOn body → GoesOn handler → GoesOn (λ st c. caught_run g mark to handler (body (opens mark st) (c + guard_price)))
+guard_spends g mark to body handler b h st c e le =
+    let r = body (opens mark st) (e + guard_price) in
+    let s = b (opens mark st) c (e + guard_price) (omega arith) in
+    any_spends st c r (caught g mark to handler) (record { turns = s.turns; others = s.others; paid = s.paid; used = s.used }) (caught_spends g mark to handler h)
+
 mutual
   pub op_spends : (g : Setting) (calls : Calls) → CallsSpend calls → (op : Op) → GoesOn (run g calls op)
   op_spends g calls h (Simple p) st c e le = act_spends g calls h p st c e le
@@ -201,6 +229,8 @@ mutual
   op_spends g calls h (Case' value a arms b d ops results to) st c e le =
       arms_spend g calls h value to arms _ (gives_spends _ to results (ops_spend g calls h ops)) st c _ (omega arith)
   op_spends g calls h (Loop' marked start parameters a ops results to) st c e le = looped_spends _ start (run_all g calls ops) (ops_spend g calls h ops) st c e le
+  op_spends g calls h (Guard' mark a b ops results parameters d others others_results to) st c e le =
+      guard_spends g mark parameters (gives (run_all g calls ops) to results) (gives (run_all g calls others) to others_results) (gives_spends _ to results (ops_spend g calls h ops)) (gives_spends _ to others_results (ops_spend g calls h others)) st c e le
   op_spends g calls h (Leave exit values) st c e le =
       needs_spends (words_of st.env values) st c _ _ (omega arith) (λ ws. stays _ st st c _ refl refl (leaves_used exit ws st) (omega arith))
 

@@ -1,11 +1,11 @@
 -- With more other rounds a run is the same, unless it needs more than it was given.
 use Rattle.std.proofs.Common.{◌≡◌, ℕ, zero, suc, ◌+◌, ◌≤◌, ◌<◌, List, [], ◌∷◌, Option, Some, None, Bool, true, false, refl, sym, ap, subst, arith}
-use Rattle.std.specs.Prelude.{◌≢◌, nat_le, if◌then◌else◌, slice_get}
+use Rattle.std.specs.Prelude.{◌≢◌, ◌-◌, ◌&&◌, nat_le, if◌then◌else◌, slice_get}
 use Rattle.rv_image.specs.Streams.{Folder, AtItsEnd, StoppedBy, Served, Finishes, Replies, served}
 use Rattle.rv_isa.specs.Arithmetic.{holds, signed_of}
 use Rattle.ir_form.specs.declared.plain.Plain.{Plain}
-use Rattle.ir_form.specs.declared.plain.Plain.TheVariants.{Constant, Global, Heap, Frame, Text, Compute, Load, Store, Ask, Call, Raise, Take, Give}
-use Rattle.ir_form.specs.declared.op.Op.{Op, Plain as Simple, If', Case', Loop', Leave, Row_of-Op, end_of-Op, more_of-Op, Row_of-Arm, end_of-Arm, more_of-Arm}
+use Rattle.ir_form.specs.declared.plain.Plain.TheVariants.{Constant, Global, Heap, Frame, Text, Compute, Load, Store, Ask, Call, Raise, Throw, Take, Give}
+use Rattle.ir_form.specs.declared.op.Op.{Op, Plain as Simple, If', Case', Loop', Guard', Leave, Row_of-Op, end_of-Op, more_of-Op, Row_of-Arm, end_of-Arm, more_of-Arm}
 use Rattle.ir_form.specs.declared.op.Exit.{Exit}
 use Rattle.ir_form.specs.declared.op.Exit.TheVariants.{Routine as the_routine, Loop as the_loop}
 use Rattle.ir_form.specs.declared.op.Range.{Range}
@@ -14,11 +14,11 @@ use Rattle.ir_form.specs.declared.unit.Unit.{Unit as RegionUnit}
 use Rattle.ir_form.specs.Place.{Place, Setting}
 use Rattle.ir_form.specs.Cells.{memory_of, loaded, stored}
 use Rattle.ir_form.specs.State.{State, Ended, Stopped, Going, Stuck, How, Next, Left, Ends, Throws, Over, Run, next, raised, over, on_how, on_run, needs, chosen, words_of, bound, binds, turn_from, other_from, begins}
-use Rattle.ir_form.specs.Cost.{plain_price, round_price}
-use Rattle.ir_form.specs.Plain.{Calls, most_rooms, storage, defines, stack_top, with_array, service_of, is_accepted, replied, does, act}
-use Rattle.ir_form.specs.Meaning.{takes_words, hands, gives, Cycle, after_round, rounds, looped, leaves, is_in_any, picks, run, run_all, run_arms, run_list, ended}
-use Rattle.ir_form.specs.Units.{Head, opened, enters_at, restored, returned, called, start, meant, concluded, head_of, body_of, calls_to, calls_within, runs_main, setting_of, unit_run, meaning, IsSteady}
-use Rattle.ir_form.proofs.Spends.{GoesOn, CallsSpend, Spends, hands_spend, ops_spend, calls_spend}
+use Rattle.ir_form.specs.Cost.{plain_price, round_price, guard_price}
+use Rattle.ir_form.specs.Plain.{Calls, most_rooms, storage, defines, stack_top, with_array, service_of, is_accepted, replied, without_array, does}
+use Rattle.ir_form.specs.Meaning.{opens, takes_up, caught, takes_words, hands, gives, Cycle, after_round, rounds, looped, leaves, is_in_any, picks, run, run_all, run_arms, run_list, ended}
+use Rattle.ir_form.specs.Units.{Head, opened, enters_at, restored, returned, called, start, meant, concluded, head_of, body_of, calls_to, calls_within, runs_main, setting_of, unit_run, IsSteady}
+use Rattle.ir_form.proofs.Spends.{GoesOn, CallsSpend, hands_spend, ops_spend, calls_spend}
 
 -- d: how many other rounds more
 module _ (d : ℕ) where
@@ -104,6 +104,10 @@ module _ (d : ℕ) where
   takes_alike true g x line w st c = refl
   takes_alike false g x line w st c = refl
 
+  raised_by_alike : (b : Bool) (kind line : ℕ) (st : State) (c : ℕ) → Alike (if b then raised kind line st c else over Stuck st c) (if b then raised kind line (longer st) c else over Stuck (longer st) c)
+  raised_by_alike true kind line st c = refl
+  raised_by_alike false kind line st c = refl
+
   module _ (g : Setting) (calls : Calls) (alike_calls : (k : ℕ) (arguments to : List ℕ) (line : ℕ) → GoAlike (calls k arguments to line) (calls k arguments to line)) where
     does_alike : (p : Plain) → GoAlike (does g calls p) (does g calls p)
     does_alike (Constant x word) st c = refl
@@ -118,6 +122,7 @@ module _ (d : ℕ) where
         needs_alike (service_of st.env service) st c _ _ (λ what. needs_alike (if is_accepted g st.cells what then Some what else None) st c _ _ (λ a. replied_alike x (served g.folder (memory_of st.cells) a st.world) st c))
     does_alike (Call k arguments to line) st c = alike_calls k arguments to line st c
     does_alike (Raise kind line) st c = refl
+    does_alike (Throw kind line) st c = needs_alike (st.env kind) st c _ _ (λ k. needs_alike (st.env line) st c _ _ (λ l. raised_by_alike (nat_le 1 k && nat_le k 21) k l st c))
     does_alike (Take x words line) st c = needs_alike (st.env words) st c _ _ (λ w. takes_alike (nat_le (st.rooms + w) most_rooms) g x line w st c)
     does_alike (Give words) st c = needs_alike (st.env words) st c _ _ (λ w. refl)
 
@@ -149,6 +154,24 @@ module _ (d : ℕ) where
   after_alike n y go to h (Over (Stopped kind line)) st c lt = refl
   after_alike n y go to h (Over Going) st c lt = tt
   after_alike n y go to h (Over Stuck) st c lt = refl
+
+  takes_up_alike : (g : Setting) (mark : ℕ) (to : List ℕ) (kind line : ℕ) → GoAlike (takes_up g mark to kind line) (takes_up g mark to kind line)
+  takes_up_alike g mark to kind line st c = needs_alike (st.marks mark) st c _ _ (λ taken. binds_alike to (kind ∷ line ∷ []) (without_array g (st.taken - taken) st) c)
+
+  caught_alike : (g : Setting) (mark : ℕ) (to : List ℕ) (handler : State → ℕ → Run) → GoAlike handler handler → (how : How) → GoAlike (caught g mark to handler how) (caught g mark to handler how)
+  caught_alike g mark to handler h Next st c = refl
+  caught_alike g mark to handler h (Left k ws) st c = refl
+  caught_alike g mark to handler h (Ends ws) st c = refl
+  caught_alike g mark to handler h (Throws kind line) st c =
+      run_alike (takes_up g mark to kind line st (c + guard_price)) (takes_up g mark to kind line (longer st) (c + guard_price)) handler handler (takes_up_alike g mark to kind line st (c + guard_price)) h
+  caught_alike g mark to handler h (Over Ended) st c = refl
+  caught_alike g mark to handler h (Over (Stopped kind line)) st c = refl
+  caught_alike g mark to handler h (Over Going) st c = tt
+  caught_alike g mark to handler h (Over Stuck) st c = refl
+
+  -- what follows a run, however that has ended
+  all_alike : (go to : How → State → ℕ → Run) → ((how : How) → GoAlike (go how) (to how)) → ((st : State) (c : ℕ) (r : Run) → Alike (go (Over Going) st c) r) → (q r : Run) → Alike q r → Alike (go q.how q.state q.cost) (to r.how r.state r.cost)
+  all_alike go to h k q r e = any_alike (suc (q.state.turns + q.state.others)) go to (λ how st c lt. h how st c) k q.how q.state q.cost r e (omega arith)
 
   -- a first round without the mark uses nothing up
   abbrev used_by : (marked again : Bool) → ℕ
@@ -213,6 +236,11 @@ module _ (d : ℕ) where
           chosen_alike (holds relation v w) _ _ (gives_alike _ to results (ops_alike ops)) (gives_alike _ to others_results (ops_alike others)) st _))
       op_alike (Case' value m arms a b ops results to) st c = arms_alike value to arms _ (gives_alike _ to results (ops_alike ops)) st _
       op_alike (Loop' marked start parameters b ops results to) st c = looped_alike (record { marked = marked; parameters = parameters; results = results; to = to }) start (run_all g calls ops) (ops_spend g calls spend ops) (ops_alike ops) st c
+      op_alike (Guard' mark a b ops results parameters e others others_results to) st c =
+          let body : State → ℕ → Run = gives (run_all g calls ops) to results in
+          let handler : State → ℕ → Run = gives (run_all g calls others) to others_results in
+          all_alike (caught g mark parameters handler) (caught g mark parameters handler) (caught_alike g mark parameters handler (gives_alike _ to others_results (ops_alike others))) (λ su i r. tt)
+          (body (opens mark st) (c + guard_price)) (body (opens mark (longer st)) (c + guard_price)) (gives_alike _ to results (ops_alike ops) (opens mark st) (c + guard_price))
       op_alike (Leave exit values) st c = needs_alike (words_of st.env values) st _ _ _ (λ ws. leaves_alike exit ws st _)
 
       ops_alike : {n : _} (ops : Row_of-Op n) → GoAlike (run_all g calls ops) (run_all g calls ops)
@@ -238,10 +266,6 @@ module _ (d : ℕ) where
   ended_alike results (Over (Stopped kind line)) st c = refl
   ended_alike results (Over Going) st c = tt
   ended_alike results (Over Stuck) st c = refl
-
-  -- what follows a run, however that has ended
-  all_alike : (go to : How → State → ℕ → Run) → ((how : How) → GoAlike (go how) (to how)) → ((st : State) (c : ℕ) (r : Run) → Alike (go (Over Going) st c) r) → (q r : Run) → Alike q r → Alike (go q.how q.state q.cost) (to r.how r.state r.cost)
-  all_alike go to h k q r e = any_alike (suc (q.state.turns + q.state.others)) go to (λ how st c lt. h how st c) k q.how q.state q.cost r e (omega arith)
 
   body_alike : (g : Setting) (calls : Calls) → CallsSpend calls → AlikeCalls calls → (r : Routine) → GoAlike (body_of g calls r) (body_of g calls r)
   body_alike g calls spend h r st c =

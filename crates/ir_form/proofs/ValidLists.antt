@@ -3,16 +3,16 @@ use Rattle.std.proofs.Common.{◌≡◌, ◌≢◌, ℕ, zero, suc, ◌+◌, ◌
 use Rattle.std.proofs.lemmas.Bool.Decides.{Decides-and, Decides-eqb}
 use Rattle.rv_isa.specs.declared.instr.Relation.{Relation}
 use Rattle.ir_form.specs.declared.op.Op.{Op}
-use Rattle.ir_form.specs.declared.op.Op.TheViews.{If, Case, Loop}
+use Rattle.ir_form.specs.declared.op.Op.TheViews.{If, Case, Loop, Guard}
 use Rattle.ir_form.specs.declared.op.Region.{Region}
 use Rattle.ir_form.specs.declared.op.Arm.{Arm}
 use Rattle.ir_form.specs.declared.unit.Routine.{Routine}
 use Rattle.ir_form.specs.declared.unit.Unit.{Unit as Program}
 use Rattle.ir_form.specs.Values.{values_of}
-use Rattle.ir_form.specs.Valid.{Scope, looped, Sees, Fits, FitsRegion, IsValidRoutine}
-use Rattle.ir_form.proofs.Lists.{fits-If, fits-Case, fits-Loop}
+use Rattle.ir_form.specs.Valid.{Scope, looped, guarded, Sees, IsNew, Fits, FitsRegion, IsValidRoutine}
+use Rattle.ir_form.proofs.Lists.{fits-If, fits-Case, fits-Loop, fits-Guard}
 use Rattle.ir_form.proofs.Tallies.{count-cons}
-use Rattle.ir_form.proofs.Decisions.{decides_sees, decides_region, decides_each, decides_fits}
+use Rattle.ir_form.proofs.Decisions.{decides_sees, decides_new, decides_region, decides_each, decides_fits}
 
 pub Fits-If : (u : Program) (r : Routine) (s : Scope) (relation : Relation) (left right : ℕ) (a b : Region) (to : List ℕ)
     → Fits u r s (If relation left right a b to) → Sees s (left ∷ right ∷ []) × (FitsRegion u r s 0 (length to) a × FitsRegion u r s 0 (length to) b)
@@ -33,6 +33,13 @@ pub Fits-Loop : (u : Program) (r : Routine) (s : Scope) (marked : Bool) (start :
 Fits-Loop u r s marked start a to h =
     let op : Op = Loop marked start a to in
     (Decides-and _ _ (decides_sees s start) (decides_region u r (looped s (length to)) (length start) (length a.parameters) a)).0 (sym (fits-Loop u r s marked start a to) ∙ (decides_fits u r s op).1 h)
+
+pub Fits-Guard : (u : Program) (r : Routine) (s : Scope) (mark : ℕ) (a b : Region) (to : List ℕ)
+    → Fits u r s (Guard mark a b to) → IsNew s mark × (FitsRegion u r (guarded s mark) 0 (length to) a × FitsRegion u r s 2 (length to) b)
+Fits-Guard u r s mark a b to h =
+    let op : Op = Guard mark a b to in
+    (Decides-and _ _ (decides_new s mark) (Decides-and _ _ (decides_region u r (guarded s mark) 0 (length to) a) (decides_region u r s 2 (length to) b))).0
+    (sym (fits-Guard u r s mark a b to) ∙ (decides_fits u r s op).1 h)
 
 -- a value that stands at a place is counted
 counted : (v : ℕ) (xs : List ℕ) (i d : ℕ) → i < length xs → get_or xs i d ≡ v → 1 ≤ count_by (λ x. x == v) xs

@@ -4,10 +4,10 @@ use Rattle.std.specs.Prelude.{pos}
 use Rattle.rv_isa.specs.declared.instr.Relation.TheVariants.{Less}
 use Rattle.rv_isa.specs.declared.instr.RegisterOp.TheVariants.{Add}
 use Rattle.tu_base.specs.declared.kind.Kind.TheVariants.{Assert}
-use Rattle.ir_form.specs.declared.plain.Plain.TheVariants.{Constant, Global, Frame, Text, Compute, Call, Raise, Take}
+use Rattle.ir_form.specs.declared.plain.Plain.TheVariants.{Constant, Global, Frame, Text, Compute, Call, Raise, Throw, Take}
 use Rattle.ir_form.specs.declared.op.Exit.TheVariants.{Loop as OfLoop}
 use Rattle.ir_form.specs.declared.op.Op.{Op, Plain as Simple, Leave}
-use Rattle.ir_form.specs.declared.op.Op.TheViews.{If, Case, Loop}
+use Rattle.ir_form.specs.declared.op.Op.TheViews.{If, Case, Loop, Guard}
 use Rattle.ir_form.specs.declared.op.Region.{Region}
 use Rattle.ir_form.specs.declared.unit.Routine.{Routine}
 use Rattle.ir_form.specs.declared.unit.Unit.{Unit as Program}
@@ -63,6 +63,53 @@ raises_and_gives = refl
 uses_from_another_region : accepts (constant 0 ∷ If Less 0 0 (region [] (constant 1 ∷ []) []) (region [] [] []) [] ∷ Simple (Compute 3 Add 1 0) ∷ []) ≡ false
 unfolding Rattle.ir_form.specs.declared.op.Op.TheBlock.hidden-the_row-Op-0 denote.Hole.Carrier.hidden
 uses_from_another_region = refl
+
+throws_and_gives_none : accepts (constant 0 ∷ If Less 0 0 (region [] (Simple (Throw 0 0) ∷ []) []) (region [] [] (0 ∷ [])) (2 ∷ []) ∷ []) ≡ true
+unfolding Rattle.ir_form.specs.declared.op.Op.TheBlock.hidden-the_row-Op-0 denote.Hole.Carrier.hidden
+throws_and_gives_none = refl
+
+-- a handler that gives the number of the exception
+abbrev handler : (kind line : ℕ) → Region
+handler kind line = region (kind ∷ line ∷ []) [] (kind ∷ [])
+
+guards : accepts (Guard 0 (region [] (constant 0 ∷ []) (0 ∷ [])) (handler 1 2) (3 ∷ []) ∷ Simple (Compute 4 Add 3 3) ∷ []) ≡ true
+unfolding Rattle.ir_form.specs.declared.op.Op.TheBlock.hidden-the_row-Op-0 denote.Hole.Carrier.hidden
+guards = refl
+
+handed_too_few : accepts (Guard 0 (region [] (constant 0 ∷ []) (0 ∷ [])) (region (1 ∷ []) [] (1 ∷ [])) (3 ∷ []) ∷ []) ≡ false
+unfolding Rattle.ir_form.specs.declared.op.Op.TheBlock.hidden-the_row-Op-0 denote.Hole.Carrier.hidden
+handed_too_few = refl
+
+guard_gives_too_few : accepts (Guard 0 (region [] (constant 0 ∷ []) []) (handler 1 2) (3 ∷ []) ∷ []) ≡ false
+unfolding Rattle.ir_form.specs.declared.op.Op.TheBlock.hidden-the_row-Op-0 denote.Hole.Carrier.hidden
+guard_gives_too_few = refl
+
+handler_uses_the_body : accepts (Guard 0 (region [] (constant 0 ∷ []) (0 ∷ [])) (region (1 ∷ 2 ∷ []) [] (0 ∷ [])) (3 ∷ []) ∷ []) ≡ false
+unfolding Rattle.ir_form.specs.declared.op.Op.TheBlock.hidden-the_row-Op-0 denote.Hole.Carrier.hidden
+handler_uses_the_body = refl
+
+-- a Guard in the body of one and another in its handler, with these marks
+abbrev two_guards : (outer body handler : ℕ) → List Op
+two_guards outer body handling =
+    Guard outer (region [] (Guard body (region [] (constant 0 ∷ []) (0 ∷ [])) (handler 1 2) (3 ∷ []) ∷ []) (3 ∷ []))
+    (region (4 ∷ 5 ∷ []) (Guard handling (region [] [] (4 ∷ [])) (handler 6 7) (8 ∷ []) ∷ []) (8 ∷ [])) (9 ∷ []) ∷ []
+
+abbrev roomy : List Op → Bool
+roomy ops = is_valid_routine (program ops) (record (main ops) { room = 200 })
+
+marks_differ : (roomy (two_guards 0 1 0) ≡ true) × (roomy (two_guards 0 0 1) ≡ false)
+unfolding Rattle.ir_form.specs.declared.op.Op.TheBlock.hidden-the_row-Op-0 denote.Hole.Carrier.hidden
+marks_differ = (refl, refl)
+
+-- 2 words, 3 values, 24 words for the Guard and 32 beside
+abbrev in_room : ℕ → Bool
+in_room words =
+    let ops = Guard 0 (region [] [] []) (region (0 ∷ 1 ∷ []) [] []) [] ∷ constant 2 ∷ [] in
+    is_valid_routine (program ops) (record (main ops) { room = words })
+
+guards_take_room : (in_room 61 ≡ true) × (in_room 60 ≡ false)
+unfolding Rattle.ir_form.specs.declared.op.Op.TheBlock.hidden-the_row-Op-0 denote.Hole.Carrier.hidden
+guards_take_room = (refl, refl)
 
 swaps : accepts (constant 0 ∷ constant 1 ∷ Loop true (0 ∷ 1 ∷ []) (region (2 ∷ 3 ∷ []) [] (3 ∷ 2 ∷ [])) [] ∷ []) ≡ true
 unfolding Rattle.ir_form.specs.declared.op.Op.TheBlock.hidden-the_row-Op-0 denote.Hole.Carrier.hidden
@@ -126,3 +173,7 @@ main_of_depth_0 = refl
 weighs : unit_weight (program (constant 0 ∷ Loop true (0 ∷ []) (region (1 ∷ []) (Simple (Call 1 (1 ∷ []) (2 ∷ []) 4) ∷ []) (2 ∷ [])) [] ∷ [])) ≡ 16 + (1 + (1 + 1 + (3 + 1))) + (16 + 1 + (1 + 1))
 unfolding Rattle.ir_form.specs.declared.op.Op.TheBlock.hidden-the_row-Op-0 denote.Hole.Carrier.hidden
 weighs = refl
+
+guard_weighs : unit_weight (program (Guard 0 (region [] (constant 0 ∷ []) (0 ∷ [])) (handler 1 2) (3 ∷ []) ∷ [])) ≡ 16 + (3 + (1 + 1) + 1) + (16 + 1 + (1 + 1))
+unfolding Rattle.ir_form.specs.declared.op.Op.TheBlock.hidden-the_row-Op-0 denote.Hole.Carrier.hidden
+guard_weighs = refl

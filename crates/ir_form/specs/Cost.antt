@@ -2,9 +2,10 @@
 -- lowest byte and labels far away: a value takes 3 instructions to reach, and a jump 2.
 use Rattle.std.specs.Prelude.{ℕ, ◌+◌, ◌*◌, length}
 use Rattle.ir_form.specs.declared.plain.Plain.{Plain}
-use Rattle.ir_form.specs.declared.plain.Plain.TheVariants.{Constant, Global, Heap, Frame, Text, Compute, Load, Store, Ask, Call, Raise, Take, Give}
+use Rattle.ir_form.specs.declared.plain.Plain.TheVariants.{Constant, Global, Heap, Frame, Text, Compute, Load, Store, Ask, Call, Raise, Throw, Take, Give}
 
--- A call also covers the test of its room, and what it defines; an address of the frame a word that is far from its start.
+-- A call also covers the test of its room, what is saved and loaded round it, what it defines, and that an exception leaves it; an address of
+-- the frame a word that is far from its start.
 abbrev pub plain_price : Plain → ℕ
 plain_price (Constant to word) = 5
 plain_price (Global to word) = 7
@@ -15,9 +16,10 @@ plain_price (Compute to op left right) = 10
 plain_price (Load to width at) = 7
 plain_price (Store width at from) = 7
 plain_price (Ask to service) = 14
-plain_price (Call routine arguments to line) = 14 + 6 * length arguments + 4 * length to
-plain_price (Raise kind line) = 6
-plain_price (Take to words line) = 20
+plain_price (Call routine arguments to line) = 90 + 7 * length arguments + 4 * length to
+plain_price (Raise kind line) = 20
+plain_price (Throw kind line) = 20
+plain_price (Take to words line) = 40
 plain_price (Give words) = 20
 
 -- a value that is handed on, or that a region or a Leave gives: an exchange of two far slots
@@ -47,3 +49,11 @@ leave_price = 7
 -- the end of a routine: a return
 abbrev pub end_price : ℕ
 end_price = 7
+
+-- an exception leaves an activation: the price of each call has this in it
+abbrev pub unwind_price : ℕ
+unwind_price = 22
+
+-- a Guard's mark, its labels and jumps; and once more, where it takes an exception, the way to its handler, with all registers
+abbrev pub guard_price : ℕ
+guard_price = 60

@@ -1,16 +1,16 @@
 -- Lawful code: what it names is there, and no run of it is stuck.
-use Rattle.std.specs.Prelude.{◌≡◌, ◌≢◌, ℕ, zero, suc, ◌+◌, ◌<◌, ◌≤◌, List, [], ◌∷◌, ◌++◌, length, map, All, Contains, IsSomeAnd, slice_get}
+use Rattle.std.specs.Prelude.{◌≡◌, ◌≢◌, ℕ, zero, suc, ◌+◌, ◌*◌, ◌<◌, ◌≤◌, List, [], ◌∷◌, ◌++◌, length, map, All, Contains, IsSomeAnd, slice_get}
 use Rattle.tu_base.specs.declared.limits.TheConstants.{MOST_GLOBAL_WORDS}
 use Rattle.rv_image.specs.Streams.{Folder}
 use Rattle.ir_form.specs.declared.plain.Plain.{Plain}
 use Rattle.ir_form.specs.declared.plain.Plain.TheVariants.{Global, Frame, Text, Call, Take, Give}
-use Rattle.ir_form.specs.declared.op.Op.{Op, Plain as Simple, If', Case', Loop', Leave, Row_of-Op, end_of-Op, more_of-Op, Row_of-Arm, end_of-Arm, more_of-Arm}
+use Rattle.ir_form.specs.declared.op.Op.{Op, Plain as Simple, If', Case', Loop', Guard', Leave, Row_of-Op, end_of-Op, more_of-Op, Row_of-Arm, end_of-Arm, more_of-Arm}
 use Rattle.ir_form.specs.declared.unit.Routine.{Routine}
 use Rattle.ir_form.specs.declared.unit.Unit.{Unit as RegionUnit}
 use Rattle.ir_form.specs.Place.{Place, IsPlace}
 use Rattle.ir_form.specs.State.{Stuck}
 use Rattle.ir_form.specs.Units.{Head, head_of, meaning}
-use Rattle.ir_form.specs.Values.{used, made}
+use Rattle.ir_form.specs.Values.{used, made, marks_of}
 
 -- the operations with no region among operations, those inside regions too, in their order
 abbrev mutual
@@ -19,6 +19,7 @@ abbrev mutual
   plains (If' relation left right _ _ ops results _ _ others others_results to) = plains_all ops ++ plains_all others
   plains (Case' value _ arms _ _ ops results to) = plains_all ops ++ plains_arms arms
   plains (Loop' marked start parameters _ ops results to) = plains_all ops
+  plains (Guard' mark _ _ ops results _ _ others others_results to) = plains_all ops ++ plains_all others
   plains (Leave exit gives) = []
 
   pub plains_all : {n : _} → Row_of-Op n → List Plain
@@ -44,6 +45,7 @@ abbrev mutual
       (left ∷ right ∷ []) ++ ((p ++ (numbers_all ops ++ results)) ++ ((q ++ (numbers_all others ++ others_results)) ++ to))
   numbers (Case' value _ arms p _ ops results to) = (value ∷ []) ++ ((p ++ (numbers_all ops ++ results)) ++ (numbers_arms arms ++ to))
   numbers (Loop' marked start p _ ops results to) = start ++ ((p ++ (numbers_all ops ++ results)) ++ to)
+  numbers (Guard' mark p _ ops results q _ others others_results to) = (p ++ (numbers_all ops ++ results)) ++ ((q ++ (numbers_all others ++ others_results)) ++ to)
   numbers (Leave exit gives) = gives
 
   pub numbers_all : {n : _} → Row_of-Op n → List ℕ
@@ -77,14 +79,17 @@ IsThere globals texts depths words depth (Take to number line) = depth ≡ 0
 IsThere globals texts depths words depth (Give number) = depth ≡ 0
 IsThere globals texts depths words depth _ = Unit {0}
 
--- a routine with these operations, and with no values but these
-pub record IsSound (globals texts : ℕ) (depths : List ℕ) (h : Head) (operations : List Plain) (named : List ℕ) : Type 0 where
+-- A routine with these operations, and with no values and no Guards but those of these numbers. Beside its words and its values it has room for 24
+-- words for each Guard.
+pub record IsSound (globals texts : ℕ) (depths : List ℕ) (h : Head) (operations : List Plain) (named guarded : List ℕ) : Type 0 where
   pub depth : h.depth ≤ 8
   pub small : h.depth ≢ 0 → h.room ≤ 512
   pub there : All (IsThere globals texts depths h.words h.depth) operations
   pub values : List ℕ
   pub known : All (Contains values) named
-  pub few : h.words + length values + 32 ≤ h.room
+  pub marks : List ℕ
+  pub marked : All (Contains marks) guarded
+  pub few : h.words + length values + 24 * length marks + 32 ≤ h.room
 
 -- the main program's routine
 pub record IsMainHead (h : Head) : Type 0 where
@@ -99,7 +104,7 @@ depths_of routines = map (λ (r : Routine). r.depth) routines
 pub record IsSoundUnit (u : RegionUnit) : Type 0 where
   pub globals : u.globals ≤ MOST_GLOBAL_WORDS
   pub main : IsSomeAnd (slice_get u.routines u.main) (λ r. IsMainHead (head_of r))
-  pub routines : All (λ r. IsSound u.globals (length u.texts) (depths_of u.routines) (head_of r) (plains_list r.body.ops) (routine_numbers r)) u.routines
+  pub routines : All (λ r. IsSound u.globals (length u.texts) (depths_of u.routines) (head_of r) (plains_list r.body.ops) (routine_numbers r) (marks_of r)) u.routines
 
 -- and wherever things lie, on every input, over every folder and within all bounds it is never stuck
 pub record IsLawful (u : RegionUnit) : Type 0 where

@@ -1,31 +1,35 @@
 -- The same as specs/Valid by tests, for the code that decides it.
-use Rattle.std.specs.Prelude.{ℕ, ◌+◌, ◌-◌, ◌^◌, Bool, true, false, ◌==◌, nat_le, nat_lt, min, not, ◌&&◌, ◌||◌, if◌then◌else◌, List, [], ◌∷◌, length, Option, Some, None, slice_get, count_by}
+use Rattle.std.specs.Prelude.{ℕ, ◌+◌, ◌-◌, ◌*◌, ◌^◌, Bool, true, false, ◌==◌, nat_le, nat_lt, min, not, ◌&&◌, ◌||◌, if◌then◌else◌, List, [], ◌∷◌, length, Option, Some, None, slice_get, count_by}
 use Rattle.std.specs.List.{list_any, list_all}
 use Rattle.ir_form.specs.declared.plain.Plain.{Plain}
 use Rattle.ir_form.specs.declared.plain.Plain.TheVariants.{Global, Frame, Text, Call, Take, Give}
 use Rattle.ir_form.specs.declared.op.Exit.{Exit}
 use Rattle.ir_form.specs.declared.op.Exit.TheVariants.{Routine as OfRoutine, Loop as OfLoop}
-use Rattle.ir_form.specs.declared.op.Op.{Op, Plain as Simple, If', Case', Loop', Leave, Row_of-Op, end_of-Op, more_of-Op, Row_of-Arm, end_of-Arm, more_of-Arm}
+use Rattle.ir_form.specs.declared.op.Op.{Op, Plain as Simple, If', Case', Loop', Guard', Leave, Row_of-Op, end_of-Op, more_of-Op, Row_of-Arm, end_of-Arm, more_of-Arm}
 use Rattle.ir_form.specs.declared.op.Region.{Region}
 use Rattle.ir_form.specs.declared.op.Arm.{Arm}
 use Rattle.ir_form.specs.declared.unit.Routine.{Routine}
 use Rattle.ir_form.specs.declared.unit.Unit.{Unit as Program}
-use Rattle.ir_form.specs.declared.around.Around.{Around, Nothing, Region' as InRegion, Loop' as InLoop}
+use Rattle.ir_form.specs.declared.around.Around.{Around, Nothing, Region' as InRegion, Loop' as InLoop, Guard' as InGuard}
 use Rattle.ir_form.specs.declared.tally.Tally.{Tally}
-use Rattle.ir_form.specs.Values.{used, given, values_of}
-use Rattle.ir_form.specs.Valid.{Scope, with, looped, outermost, leaves_last, leaves_list, given_all, given_list}
+use Rattle.ir_form.specs.Values.{used, given, values_of, marks_of}
+use Rattle.ir_form.specs.Valid.{Scope, with, looped, guarded, outermost, leaves_last, leaves_list, given_all, given_list}
 
 -- the scope that lies around
 abbrev pub scope_of : Around → Scope
 scope_of Nothing = outermost
 scope_of (InRegion _ outer parameters before) = with (with (scope_of outer) parameters.now) (given_list before.now)
 scope_of (InLoop _ outer taken) = looped (scope_of outer) taken
+scope_of (InGuard _ outer mark) = guarded (scope_of outer) mark
 
 abbrev pub contains : List ℕ → ℕ → Bool
 contains values value = list_any (λ x. x == value) values
 
 abbrev pub sees : Scope → List ℕ → Bool
 sees s wanted = list_all (contains s.values) wanted
+
+abbrev pub is_new : Scope → ℕ → Bool
+is_new s mark = not (contains s.marks mark)
 
 abbrev pub may_call : Routine → Routine → Bool
 may_call caller callee = caller.depth == 0 || (not (callee.depth == 0) && nat_lt callee.depth caller.depth)
@@ -67,6 +71,9 @@ abbrev mutual
       sees s (value ∷ []) && (fits_arms u r s (length to) arms && (fits_all u r (with s parameters) ops && closes s 0 parameters (given_all ops) (leaves_last false ops) results (length to)))
   fits u r s (Loop' marked start parameters _ ops results to) =
       sees s start && (fits_all u r (with (looped s (length to)) parameters) ops && closes s (length start) parameters (given_all ops) (leaves_last false ops) results (length parameters))
+  fits u r s (Guard' mark body_parameters _ ops results parameters _ others others_results to) =
+      is_new s mark && ((fits_all u r (with (guarded s mark) body_parameters) ops && closes s 0 body_parameters (given_all ops) (leaves_last false ops) results (length to))
+      && (fits_all u r (with s parameters) others && closes s 2 parameters (given_all others) (leaves_last false others) others_results (length to)))
   fits u r s (Leave exit gives) = sees s gives && is_taken r s exit (length gives)
 
   pub fits_all : Program → Routine → Scope → {n : _} → Row_of-Op n → Bool
@@ -111,15 +118,15 @@ tally_of t (value ∷ values) = tally_of (met t value) values
 abbrev pub is_once : List ℕ → ℕ → Bool
 is_once values value = count_by (λ x. x == value) values == 1
 
-abbrev pub has_room : Routine → ℕ → Bool
-has_room r values = nat_le (r.words + values + 32) r.room
+abbrev pub has_room : Routine → (values guards : ℕ) → Bool
+has_room r values guards = nat_le (r.words + values + 24 * guards + 32) r.room
 
 abbrev pub is_small : Routine → Bool
 is_small r = nat_le r.depth 8 && (r.depth == 0 || nat_le r.room 512)
 
 abbrev pub is_valid_routine : Program → Routine → Bool
 is_valid_routine u r =
-    is_small r && (has_room r (length (values_of r)) && (list_all (is_once (values_of r)) (values_of r) && fits_region u r outermost (length r.body.parameters) r.results r.body))
+    is_small r && (has_room r (length (values_of r)) (length (marks_of r)) && (list_all (is_once (values_of r)) (values_of r) && fits_region u r outermost (length r.body.parameters) r.results r.body))
 
 abbrev pub is_main : Routine → Bool
 is_main r = r.depth == 0 && (nat_le r.room 8388608 && (length r.body.parameters == 0 && r.results == 0))

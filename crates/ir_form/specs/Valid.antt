@@ -1,34 +1,42 @@
 -- When a unit is valid.
-use Rattle.std.specs.Prelude.{◌≡◌, ◌≢◌, ℕ, ◌+◌, ◌<◌, ◌≤◌, Bool, true, false, ◌==◌, if◌then◌else◌, List, [], ◌∷◌, ◌++◌, length, All, Contains, Option, Some, IsSomeAnd, slice_get, count_by}
+use Rattle.std.specs.Prelude.{◌≡◌, ◌≢◌, ℕ, ◌+◌, ◌*◌, ◌<◌, ◌≤◌, Bool, true, false, ◌==◌, if◌then◌else◌, List, [], ◌∷◌, ◌++◌, length, All, Contains, Option, Some, IsSomeAnd, slice_get, count_by}
 use Rattle.ir_form.specs.declared.plain.Plain.{Plain}
-use Rattle.ir_form.specs.declared.plain.Plain.TheVariants.{Global, Frame, Text, Call, Raise, Take, Give}
+use Rattle.ir_form.specs.declared.plain.Plain.TheVariants.{Global, Frame, Text, Call, Raise, Throw, Take, Give}
 use Rattle.ir_form.specs.declared.op.Exit.{Exit}
 use Rattle.ir_form.specs.declared.op.Exit.TheVariants.{Routine as OfRoutine, Loop as OfLoop}
-use Rattle.ir_form.specs.declared.op.Op.{Op, Plain as Simple, If', Case', Loop', Leave, Row_of-Op, end_of-Op, more_of-Op, Row_of-Arm, end_of-Arm, more_of-Arm}
+use Rattle.ir_form.specs.declared.op.Op.{Op, Plain as Simple, If', Case', Loop', Guard', Leave, Row_of-Op, end_of-Op, more_of-Op, Row_of-Arm, end_of-Arm, more_of-Arm}
 use Rattle.ir_form.specs.declared.op.Region.{Region}
 use Rattle.ir_form.specs.declared.unit.Routine.{Routine}
 use Rattle.ir_form.specs.declared.unit.Unit.{Unit as Program}
-use Rattle.ir_form.specs.Values.{used, given, values_of}
+use Rattle.ir_form.specs.Values.{used, given, values_of, marks_of}
 
--- what lies before and around an operation: the values that are defined so far in its region and in those around it, and how many values each
--- loop around it takes where it is left, with the innermost first
+-- what lies before and around an operation: the values that are defined so far in its region and in those around it, how many values each loop
+-- around it takes where it is left, with the innermost first, and the numbers of the Guards in whose bodies it lies
 pub record Scope : Type 0 where
   pub values : List ℕ
   pub loops : List ℕ
+  pub marks : List ℕ
 
--- a scope with more values, and one within a further loop
+-- a scope with more values, one within a further loop, and one within the body of a Guard
 abbrev pub with : Scope → List ℕ → Scope
 with s more = record s { values = s.values ++ more }
 
 abbrev pub looped : Scope → ℕ → Scope
 looped s takes = record s { loops = takes ∷ s.loops }
 
+abbrev pub guarded : Scope → ℕ → Scope
+guarded s mark = record s { marks = mark ∷ s.marks }
+
 -- where a routine begins
 abbrev pub outermost : Scope
-outermost = record { values = []; loops = [] }
+outermost = record { values = []; loops = []; marks = [] }
 
 abbrev pub Sees : Scope → List ℕ → Type 0
 Sees s wanted = All (Contains s.values) wanted
+
+-- a Guard lies in the body of no Guard of its number
+abbrev pub IsNew : Scope → ℕ → Type 0
+IsNew s mark = ¬ Contains s.marks mark
 
 -- A call hands over and takes as many values as the routine does. From a routine of the run time it goes to a smaller depth.
 pub record IsCall (caller callee : Routine) (arguments to : List ℕ) : Type 0 where
@@ -54,6 +62,7 @@ taken_at r s (OfLoop outside) = slice_get s.loops outside
 -- whether an operation ends its region for good
 abbrev pub leaves : Op → Bool
 leaves (Simple (Raise kind line)) = true
+leaves (Simple (Throw kind line)) = true
 leaves (Leave exit gives) = true
 leaves _ = false
 
@@ -92,6 +101,9 @@ abbrev mutual
       Sees s (value ∷ []) × FitsArms u r s (length to) arms × FitsAll u r (with s parameters) ops × IsClosed s 0 parameters (given_all ops) (leaves_last false ops) results (length to)
   Fits u r s (Loop' marked start parameters _ ops results to) =
       Sees s start × FitsAll u r (with (looped s (length to)) parameters) ops × IsClosed s (length start) parameters (given_all ops) (leaves_last false ops) results (length parameters)
+  Fits u r s (Guard' mark body_parameters _ ops results parameters _ others others_results to) =
+      IsNew s mark × FitsAll u r (with (guarded s mark) body_parameters) ops × IsClosed s 0 body_parameters (given_all ops) (leaves_last false ops) results (length to)
+      × FitsAll u r (with s parameters) others × IsClosed s 2 parameters (given_all others) (leaves_last false others) others_results (length to)
   Fits u r s (Leave exit gives) = Sees s gives × (taken_at r s exit ≡ Some (length gives))
 
   pub FitsAll : Program → Routine → Scope → {n : _} → Row_of-Op n → Type 0
@@ -119,7 +131,7 @@ IsOnce values value = count_by (λ x. x == value) values ≡ 1
 pub record IsValidRoutine (u : Program) (r : Routine) : Type 0 where
   pub once : All (IsOnce (values_of r)) (values_of r)
   pub body : FitsRegion u r outermost (length r.body.parameters) r.results r.body
-  pub room : r.words + length (values_of r) + 32 ≤ r.room
+  pub room : r.words + length (values_of r) + 24 * length (marks_of r) + 32 ≤ r.room
   pub depth : r.depth ≤ 8
   pub small : r.depth ≢ 0 → r.room ≤ 512
 

@@ -3,8 +3,8 @@ use Rattle.std.specs.Prelude.{ℕ, List, [], ◌∷◌, ◌++◌}
 use Rattle.rv_isa.specs.declared.service.Service.{Service}
 use Rattle.rv_isa.specs.declared.service.Service.TheVariants.{End, Stop, PutConsole, GetConsole, Open, Close, PutStream, GetStream, State}
 use Rattle.ir_form.specs.declared.plain.Plain.{Plain}
-use Rattle.ir_form.specs.declared.plain.Plain.TheVariants.{Constant, Global, Heap, Frame, Text, Compute, Load, Store, Ask, Call, Raise, Take, Give}
-use Rattle.ir_form.specs.declared.op.Op.{Op, Plain as Simple, If', Case', Loop', Leave, Row_of-Op, end_of-Op, more_of-Op, Row_of-Arm, end_of-Arm, more_of-Arm}
+use Rattle.ir_form.specs.declared.plain.Plain.TheVariants.{Constant, Global, Heap, Frame, Text, Compute, Load, Store, Ask, Call, Raise, Throw, Take, Give}
+use Rattle.ir_form.specs.declared.op.Op.{Op, Plain as Simple, If', Case', Loop', Guard', Leave, Row_of-Op, end_of-Op, more_of-Op, Row_of-Arm, end_of-Arm, more_of-Arm}
 use Rattle.ir_form.specs.declared.op.Region.{Region}
 use Rattle.ir_form.specs.declared.op.Arm.{Arm}
 use Rattle.ir_form.specs.declared.unit.Routine.{Routine}
@@ -34,6 +34,7 @@ used (Store width at from) = at ∷ from ∷ []
 used (Ask to service) = asked service
 used (Call routine arguments to line) = arguments
 used (Raise kind line) = []
+used (Throw kind line) = kind ∷ line ∷ []
 used (Take to words line) = words ∷ []
 used (Give words) = words ∷ []
 
@@ -50,6 +51,7 @@ made (Store width at from) = []
 made (Ask to service) = to ∷ []
 made (Call routine arguments to line) = to
 made (Raise kind line) = []
+made (Throw kind line) = []
 made (Take to words line) = to ∷ []
 made (Give words) = []
 
@@ -59,6 +61,7 @@ given (Simple p) = made p
 given (If' relation left right yes_parameters _ yes_ops yes_results no_parameters _ no_ops no_results to) = to
 given (Case' value _ arms parameters _ others results to) = to
 given (Loop' marked start parameters _ body results to) = to
+given (Guard' mark body_parameters _ ops results parameters _ others others_results to) = to
 given (Leave exit gives) = []
 
 -- all values that operations define, those inside their regions too, in their order
@@ -68,6 +71,7 @@ abbrev mutual
   defined (If' relation left right yes_parameters _ yes_ops yes_results no_parameters _ no_ops no_results to) = (yes_parameters ++ defined_all yes_ops) ++ ((no_parameters ++ defined_all no_ops) ++ to)
   defined (Case' value _ arms parameters _ others results to) = defined_arms arms ++ ((parameters ++ defined_all others) ++ to)
   defined (Loop' marked start parameters _ body results to) = (parameters ++ defined_all body) ++ to
+  defined (Guard' mark body_parameters _ ops results parameters _ others others_results to) = (body_parameters ++ defined_all ops) ++ ((parameters ++ defined_all others) ++ to)
   defined (Leave exit gives) = []
 
   pub defined_all : {n : _} → Row_of-Op n → List ℕ
@@ -82,6 +86,32 @@ abbrev pub defined_list : List Op → List ℕ
 defined_list [] = []
 defined_list (op ∷ ops) = defined op ++ defined_list ops
 
+-- the numbers of the Guards among operations, those inside regions too, in their order
+abbrev mutual
+  pub marks : Op → List ℕ
+  marks (Simple p) = []
+  marks (If' relation left right _ _ yes_ops yes_results _ _ no_ops no_results to) = marks_all yes_ops ++ marks_all no_ops
+  marks (Case' value _ arms _ _ others results to) = marks_arms arms ++ marks_all others
+  marks (Loop' marked start _ _ body results to) = marks_all body
+  marks (Guard' mark _ _ ops results _ _ others others_results to) = mark ∷ (marks_all ops ++ marks_all others)
+  marks (Leave exit gives) = []
+
+  pub marks_all : {n : _} → Row_of-Op n → List ℕ
+  marks_all end_of-Op = []
+  marks_all (more_of-Op op ops) = marks op ++ marks_all ops
+
+  pub marks_arms : {n : _} → Row_of-Arm n → List ℕ
+  marks_arms end_of-Arm = []
+  marks_arms (more_of-Arm ranges _ _ ops results arms) = marks_all ops ++ marks_arms arms
+
+abbrev pub marks_list : List Op → List ℕ
+marks_list [] = []
+marks_list (op ∷ ops) = marks op ++ marks_list ops
+
+abbrev pub marks_each : List Arm → List ℕ
+marks_each [] = []
+marks_each (arm ∷ arms) = marks_list arm.region.ops ++ marks_each arms
+
 abbrev pub defined_region : Region → List ℕ
 defined_region region = region.parameters ++ defined_list region.ops
 
@@ -92,3 +122,7 @@ defined_each (arm ∷ arms) = defined_region arm.region ++ defined_each arms
 -- all values of a routine
 abbrev pub values_of : Routine → List ℕ
 values_of r = defined_region r.body
+
+-- the numbers of all Guards of a routine
+abbrev pub marks_of : Routine → List ℕ
+marks_of r = marks_list r.body.ops

@@ -1,9 +1,10 @@
 -- How much units weigh: their operations, the ranges of their cases, the parameters of their routines, the values that their calls define, the
--- values that are handed to calls, regions and the next rounds of loops, the values that regions and leaves give, and 16 for each routine.
+-- values that are handed to calls, regions and the next rounds of loops, the values that regions and leaves give, and 16 for each routine. A
+-- Guard's handler is handed two values.
 use Rattle.std.specs.Prelude.{ℕ, ◌+◌, List, [], ◌∷◌, length, sum_by}
 use Rattle.ir_form.specs.declared.plain.Plain.{Plain}
 use Rattle.ir_form.specs.declared.plain.Plain.TheVariants.{Call}
-use Rattle.ir_form.specs.declared.op.Op.{Op, Plain as Simple, If', Case', Loop', Leave, Row_of-Op, end_of-Op, more_of-Op, Row_of-Arm, end_of-Arm, more_of-Arm}
+use Rattle.ir_form.specs.declared.op.Op.{Op, Plain as Simple, If', Case', Loop', Guard', Leave, Row_of-Op, end_of-Op, more_of-Op, Row_of-Arm, end_of-Arm, more_of-Arm}
 use Rattle.ir_form.specs.declared.unit.Routine.{Routine}
 use Rattle.ir_form.specs.declared.unit.Unit.{Unit as Program}
 
@@ -19,6 +20,7 @@ abbrev mutual
   weight (If' relation left right _ _ yes_ops yes_results _ _ no_ops no_results to) = 1 + (weight_all yes_ops + length yes_results) + (weight_all no_ops + length no_results)
   weight (Case' value _ arms _ _ others results to) = 1 + weight_arms arms + (weight_all others + length results)
   weight (Loop' marked start parameters _ body results to) = 1 + length start + (weight_all body + length results)
+  weight (Guard' mark _ _ ops results _ _ others others_results to) = 3 + (weight_all ops + length results) + (weight_all others + length others_results)
   weight (Leave exit gives) = 1 + length gives
 
   pub weight_all : {n : _} → Row_of-Op n → ℕ

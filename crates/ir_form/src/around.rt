@@ -29,6 +29,11 @@ pub enum Around<'a> {
         outer: &'a Around<'a>,
         taken: usize,
     },
+    /// The Guard of this mark, whose body it is, and what lies around that.
+    Guard {
+        outer: &'a Around<'a>,
+        mark: u32,
+    },
 }
 
 fn contains_value(values: &[u32], value: u32) -> bool
@@ -107,6 +112,7 @@ fn sees_in_order(around: &Around<'_>, value: u32) -> bool
                 || sees_in_order(outer, value)
         }
         Around::Loop { outer, .. } => sees_in_order(outer, value),
+        Around::Guard { outer, .. } => sees_in_order(outer, value),
     }
 }
 
@@ -123,6 +129,7 @@ fn sees_anywhere(around: &Around<'_>, value: u32) -> bool
             sees_anywhere(outer, value) || contains_value(parameters, value) || gives(before, value)
         }
         Around::Loop { outer, .. } => sees_anywhere(outer, value),
+        Around::Guard { outer, .. } => sees_anywhere(outer, value),
     }
 }
 
@@ -158,6 +165,7 @@ pub fn sees_used(around: &Around<'_>, plain: &Plain) -> bool
     match plain {
         Plain::Constant { .. } | Plain::Global { .. } | Plain::Heap { .. } => true,
         Plain::Frame { .. } | Plain::Text { .. } | Plain::Raise { .. } => true,
+        Plain::Throw { kind, line } => sees_each(around, &[*kind, *line]),
         Plain::Compute { left, right, .. } => sees_each(around, &[*left, *right]),
         Plain::Load { at, .. } => sees_each(around, &[*at]),
         Plain::Store { at, from, .. } => sees_each(around, &[*at, *from]),
@@ -175,6 +183,7 @@ fn taken_outside(around: &Around<'_>, loops: u32) -> Option<usize>
     match around {
         Around::Nothing => None,
         Around::Region { outer, .. } => taken_outside(outer, loops),
+        Around::Guard { outer, .. } => taken_outside(outer, loops),
         Around::Loop { outer, taken } => {
             if loops == 0 {
                 Some(*taken)
@@ -182,6 +191,18 @@ fn taken_outside(around: &Around<'_>, loops: u32) -> Option<usize>
                 taken_outside(outer, loops - 1)
             }
         }
+    }
+}
+
+// Whether it lies in the body of a Guard of this mark.
+pub fn is_marked(around: &Around<'_>, mark: u32) -> bool
+    ensures { result ≡ contains (scope_of around.now).marks mark }
+{
+    match around {
+        Around::Nothing => false,
+        Around::Region { outer, .. } => is_marked(outer, mark),
+        Around::Loop { outer, .. } => is_marked(outer, mark),
+        Around::Guard { outer, mark: other } => *other == mark || is_marked(outer, mark),
     }
 }
 

@@ -2,6 +2,7 @@
 #![tactic(auto)]
 
 mod around;
+mod guards;
 pub mod laws;
 pub mod op;
 pub mod plain;

@@ -52,6 +52,16 @@ pub enum Op {
         body: Region,
         to: Items<u32>,
     },
+    /// Does `body`, and where an exception leaves it `handler`, to which the exception's number and
+    /// line are handed. What the routine took of the stack since the Guard began is then handed
+    /// back. `to` takes what the one or the other gives. An exception of `handler` leaves the Guard.
+    /// Guards that lie in one another's bodies have different marks.
+    Guard {
+        mark: u32,
+        body: Region,
+        handler: Region,
+        to: Items<u32>,
+    },
     /// Ends a loop or the routine, and gives it values.
     Leave {
         exit: Exit,

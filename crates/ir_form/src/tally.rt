@@ -40,7 +40,8 @@ fn made_by(plain: &Plain) -> &[u32]
         Plain::Ask { to, .. } => from_ref(to),
         Plain::Take { to, .. } => from_ref(to),
         Plain::Call { to, .. } => to.as_slice(),
-        Plain::Store { .. } | Plain::Raise { .. } | Plain::Give { .. } => &[],
+        Plain::Store { .. } | Plain::Raise { .. } => &[],
+        Plain::Throw { .. } | Plain::Give { .. } => &[],
     }
 }
 
@@ -53,6 +54,7 @@ pub fn given_by(op: &Op) -> &[u32]
         Op::If { to, .. } => to.as_slice(),
         Op::Case { to, .. } => to.as_slice(),
         Op::Loop { to, .. } => to.as_slice(),
+        Op::Guard { to, .. } => to.as_slice(),
         Op::Leave { .. } => &[],
     }
 }
@@ -123,6 +125,16 @@ fn tally_op(op: &Op, before: Tally) -> Tally
             let tally = tally_region(body, before);
             tally_values(to.as_slice(), tally)
         }
+        Op::Guard {
+            body,
+            handler,
+            to,
+            ..
+        } => {
+            let tally = tally_region(body, before);
+            let tally = tally_region(handler, tally);
+            tally_values(to.as_slice(), tally)
+        }
         Op::Leave { .. } => before,
     }
 }
@@ -190,6 +202,16 @@ fn once_op(op: &Op, routine: &Routine) -> bool
         }
         Op::Loop { body, to, .. } => {
             once_region(body, routine) && once_values(to.as_slice(), routine)
+        }
+        Op::Guard {
+            body,
+            handler,
+            to,
+            ..
+        } => {
+            once_region(body, routine)
+                && once_region(handler, routine)
+                && once_values(to.as_slice(), routine)
         }
         Op::Leave { .. } => true,
     }

@@ -2,11 +2,12 @@
 
 ghost use Rattle.std.specs.Prelude.{◌≡◌, ℕ, ◌+◌, ◌↔◌, ◌==◌, length, IsTrue, false};
 ghost use Rattle.std.specs.List.{list_all};
-ghost use Rattle.ir_form.specs.Values.{values_of};
-ghost use Rattle.ir_form.specs.Valid.{leaves, leaves_list, given_list, IsValid};
+ghost use Rattle.ir_form.specs.Values.{values_of, marks_of};
+ghost use Rattle.ir_form.specs.Valid.{guarded, leaves, leaves_list, given_list, IsValid};
 ghost use Rattle.ir_form.specs.Tests.{scope_of, may_call, call_fits, is_placed, closes, fits, fits_region, fits_each, loop_closes, has_room, is_small, is_valid_routine, is_main};
 
-use crate::around::{Around, leave_is_taken, sees_each, sees_used};
+use crate::around::{Around, is_marked, leave_is_taken, sees_each, sees_used};
+use crate::guards::number_of_guards;
 use crate::op::{Arm, Op, Region};
 use crate::plain::Plain;
 use crate::tally::{each_is_once, given_by, number_of_values};
@@ -15,6 +16,9 @@ use sqlite_items::at;
 
 // The words of a room that a routine keeps beside its memory and its values.
 const KEPT_WORDS: u64 = 32;
+
+// The words of a room that each Guard keeps.
+const GUARD_WORDS: u64 = 24;
 
 // The greatest depth, and the greatest rooms of a routine that has one and of the main program.
 const MOST_DEPTH: u32 = 8;
@@ -63,7 +67,7 @@ fn leaves_region(op: &Op) -> bool
     ensures { result ≡ leaves op.now }
 {
     match op {
-        Op::Plain(Plain::Raise { .. }) | Op::Leave { .. } => true,
+        Op::Plain(Plain::Raise { .. } | Plain::Throw { .. }) | Op::Leave { .. } => true,
         _ => false,
     }
 }
@@ -131,6 +135,16 @@ fn op_fits<'a>(op: &'a Op, around: &'a Around<'a>, unit: &Unit, routine: &Routin
             to,
             ..
         } => loop_fits(body, around, unit, routine, start.as_slice(), to.len()),
+        Op::Guard {
+            mark,
+            body,
+            handler,
+            to,
+        } => {
+            !is_marked(around, *mark)
+                && guarded_fits(body, around, unit, routine, *mark, to.len())
+                && region_fits(handler, around, unit, routine, 2, to.len())
+        }
         Op::Leave { exit, gives } => {
             sees_each(around, gives.as_slice())
                 && leave_is_taken(*exit, around, routine, gives.len())
@@ -157,6 +171,25 @@ fn loop_fits<'a>(
     };
     let next = body.parameters.len();
     sees_each(around, start) && region_fits(body, &inside, unit, routine, start.len(), next)
+}
+
+// Whether the body of a Guard of this mark fits, which gives so many values.
+#[cycle(fits)]
+fn guarded_fits<'a>(
+    body: &'a Region,
+    around: &'a Around<'a>,
+    unit: &Unit,
+    routine: &Routine,
+    mark: u32,
+    taken: usize,
+) -> bool
+    ensures { result ≡ fits_region unit.now routine.now (guarded (scope_of around.now) mark) 0 taken body.now }
+{
+    let inside = Around::Guard {
+        outer: around,
+        mark,
+    };
+    region_fits(body, &inside, unit, routine, 0, taken)
 }
 
 #[cycle(fits)]
@@ -207,15 +240,21 @@ fn region_fits<'a>(
     region_closes(region, around, handed, taken)
 }
 
-// Whether the room holds the memory, the values and the words that every routine keeps.
+// Whether the room holds the memory, the values, the words of the Guards and those that every
+// routine keeps.
 fn room_suffices(routine: &Routine) -> bool
-    ensures { result ≡ has_room routine.now (length (values_of routine.now)) }
+    ensures { result ≡ has_room routine.now (length (values_of routine.now)) (length (marks_of routine.now)) }
 {
     if routine.room < KEPT_WORDS {
         return false;
     }
     let free = routine.room - KEPT_WORDS;
-    routine.words <= free && number_of_values(routine) <= free - routine.words
+    if routine.words > free {
+        return false;
+    }
+    let free = free - routine.words;
+    let values = number_of_values(routine);
+    values <= free && number_of_guards(routine) <= (free - values) / GUARD_WORDS
 }
 
 fn depth_is_valid(routine: &Routine) -> bool

@@ -11,9 +11,9 @@ use Rattle.ir_code.specs.Pieces.{leave, once, repeat, with_op}
 use Rattle.ir_code.specs.Laws.{cycle}
 use Rattle.ir_code.specs.declared.code.Code.{Code}
 use Rattle.ir_code.proofs.Running.{runs_in_order, once_runs, repeat_runs}
-use Rattle.tu_meaning.specs.Interpreter.{Flow, Next, Exits, and_then, unless_left, rounds}
-use Rattle.tu_meaning.specs.Steps.{State, Step, give, pay, stop, turned, ◌>>=◌, ◌>>◌}
-use Rattle.tu_meaning.specs.Store.{Store}
+use Rattle.tu_tree_meaning.specs.Interpreter.{Flow, Next, Exits, and_then, unless_left, rounds}
+use Rattle.tu_tree_meaning.specs.Steps.{State, Step, give, pay, stop, turned, ◌>>=◌, ◌>>◌}
+use Rattle.tu_tree_meaning.specs.Store.{Store}
 use Rattle.ir_build.specs.Does.{TestDoes}
 use Rattle.ir_build.specs.Keeps.{Named, Site, AllLie, Holds, Keeps, Tells}
 use Rattle.ir_build.specs.Code.{Tested, where_tested}

@@ -8,8 +8,8 @@ use Rattle.tu_token.specs.Syntax.{Of}
 use Rattle.tu_expr.specs.Parts.{Part}
 use Rattle.tu_expr.specs.declared.leaf.Leaf.{Leaf}
 use Rattle.tu_tree.specs.TypeViews.{named as further_name, named_view, names_view}
-use Rattle.tu_meaning.specs.Interpreter.{more_names, names_of}
-use Rattle.tu_meaning.specs.Values.{Variable}
+use Rattle.tu_tree_meaning.specs.Interpreter.{more_names, names_of}
+use Rattle.tu_tree_meaning.specs.Values.{Variable}
 use Rattle.tu_value.specs.declared.pieces.Fixed.{Fixed}
 use Rattle.ir_build.specs.Built.{is_declared}
 use Rattle.ir_build.specs.Code.{Made, named, code_expr}

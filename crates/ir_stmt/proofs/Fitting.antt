@@ -5,7 +5,7 @@ use Rattle.std.proofs.lemmas.List.{append-nil}
 use Rattle.ir_form.specs.declared.op.Op.{Op}
 use Rattle.ir_form.specs.declared.unit.Routine.{Routine}
 use Rattle.ir_form.specs.declared.unit.Unit.{Unit as RegionUnit}
-use Rattle.ir_form.specs.Values.{defined, defined_list}
+use Rattle.ir_form.specs.Values.{defined, defined_list, marks, marks_list}
 use Rattle.ir_form.specs.Valid.{Scope, with, looped}
 use Rattle.ir_form.specs.Weight.{weight, weight_list}
 use Rattle.ir_form.specs.Tests.{contains, is_call, fits, fits_list}
@@ -16,8 +16,8 @@ use Rattle.tu_value.specs.declared.pieces.Fixed.{Fixed}
 use Rattle.ir_build.specs.Behind.{AreFrom, Grows, IsFit, IsTidy, Makes, SeesAll, Tests, behind, known}
 use Rattle.ir_build.specs.Keeps.{Named}
 use Rattle.ir_build.specs.Code.{Made, Tested, where_tested}
-use Rattle.ir_build.proofs.Fits.{is_and, kept_front, same_grows, grows_then, grows_more, appended_grows, behind_fits, FitIn, defined_append, weight_append}
-use Rattle.ir_build.proofs.Regions.{weight_choice, weight_once, weight_repeat, defined_choice, defined_once, defined_repeat, choice_fits, once_fits, repeat_fits, leave_fits}
+use Rattle.ir_build.proofs.Fits.{is_and, kept_front, same_grows, grows_then, grows_more, appended_grows, behind_fits, FitIn, defined_append, marks_append, weight_append}
+use Rattle.ir_build.proofs.Regions.{weight_choice, weight_once, weight_repeat, defined_choice, defined_once, defined_repeat, marks_choice, marks_once, marks_repeat, choice_fits, once_fits, repeat_fits, leave_fits}
 use Rattle.ir_build.proofs.Operations.{sees_more}
 use Rattle.ir_build.proofs.Makes.{still_sees}
 use Rattle.ir_stmt.specs.Code.{put_int, put_line, inside, enclosed, with_arm}
@@ -28,14 +28,14 @@ sees_also s t [] f h = tt
 sees_also s t (v ∷ vs) f h = (f v h.0, sees_also s t vs f h.1)
 
 -- an operation behind the code that defines the values up to the next one
-pub operation_grows : (most next : ℕ) (code : Code) (op : Op) → weight op ≤ most → next ≤ code.next + most → AreFrom code.next (defined op) → code.next + length (defined op) ≡ next → Grows most code (record { ops = code.ops ++ op ∷ []; next = next })
-operation_grows most next code op light few from is =
+pub operation_grows : (most next : ℕ) (code : Code) (op : Op) → weight op ≤ most → next ≤ code.next + most → AreFrom code.next (defined op) → code.next + length (defined op) ≡ next → marks op ≡ [] → Grows most code (record { ops = code.ops ++ op ∷ []; next = next })
+operation_grows most next code op light few from is free =
     let e = append-nil (defined op) in
-    appended_grows most next code (op ∷ []) (omega (arith, light)) few (subst (AreFrom code.next) (sym e) from) (let l = ap length e in omega (arith, is))
+    appended_grows most next code (op ∷ []) (omega (arith, light)) few (subst (AreFrom code.next) (sym e) from) (let l = ap length e in omega (arith, is)) (append-nil (marks op) ∙ free)
 
 -- and one that defines no values
-pub pushed_grows : (most : ℕ) (code : Code) (op : Op) → weight op ≤ most → defined op ≡ [] → Grows most code (with_op code op)
-pushed_grows most code op light e = operation_grows most code.next code op light (omega arith) (subst (AreFrom code.next) (sym e) tt) (let l = ap length e in omega arith)
+pub pushed_grows : (most : ℕ) (code : Code) (op : Op) → weight op ≤ most → defined op ≡ [] → marks op ≡ [] → Grows most code (with_op code op)
+pushed_grows most code op light e free = operation_grows most code.next code op light (omega arith) (subst (AreFrom code.next) (sym e) tt) (let l = ap length e in omega arith) free
 
 begun_inside : (code : Code) → IsTidy code.next (inside code)
 begun_inside code = record { values = tt; last = omega arith }
@@ -86,7 +86,7 @@ module _ (u : RegionUnit) (r : Routine) where
 
     pub leave_does : (outside : ℕ) (code : Code) → Does (Takes outside) 1 code (with_op code (leave outside))
     leave_does outside code = record {
-      grows = pushed_grows 1 code (leave outside) (omega arith) refl;
+      grows = pushed_grows 1 code (leave outside) (omega arith) refl refl;
       fits = λ s p h e. behind_fits u r 0 s code (leave outside ∷ []) e (op_fits (behind s code) (leave outside) (leave_fits u r (behind s code) outside p));
     }
 
@@ -104,6 +104,13 @@ module _ (u : RegionUnit) (r : Routine) where
         by true = defined_choice t.comparison.relation t.right t.left first [] ∙ append-nil (defined_list first)
         by false = defined_choice t.comparison.relation t.left t.right first [] ∙ append-nil (defined_list first)
 
+    tested_marks : (t : Tested) (first : List Op) → marks (where_tested t first []) ≡ marks_list first
+    tested_marks t first = by t.comparison.swapped
+      where
+        by : (b : Bool) → marks (if b then choice t.comparison.relation t.right t.left first [] else choice t.comparison.relation t.left t.right first []) ≡ marks_list first
+        by true = marks_choice t.comparison.relation t.right t.left first [] ∙ append-nil (marks_list first)
+        by false = marks_choice t.comparison.relation t.left t.right first [] ∙ append-nil (marks_list first)
+
     tested_fits : (s : Scope) (t : Tested) (first : List Op) → contains s.values t.left ≡ true → contains s.values t.right ≡ true → fits_list u r s first ≡ true → fits u r s (where_tested t first []) ≡ true
     tested_fits s t first a b h = by t.comparison.swapped
       where
@@ -114,7 +121,7 @@ module _ (u : RegionUnit) (r : Routine) where
     -- an exit under a condition
     pub when_does : {a : ℕ} {code : Code} {t : Tested} (outside : ℕ) → Tests u r k names a code t → Does (Takes outside) (a + 2) code (with_op t.code (where_tested t (leave outside ∷ []) []))
     when_does {a} {code} {t} outside m = record {
-      grows = grows_then m.grows (pushed_grows 2 t.code (where_tested t (leave outside ∷ []) []) (let w = tested_weight t (leave outside ∷ []) in omega arith) (tested_defined t (leave outside ∷ []))) (omega arith);
+      grows = grows_then m.grows (pushed_grows 2 t.code (where_tested t (leave outside ∷ []) []) (let w = tested_weight t (leave outside ∷ []) in omega arith) (tested_defined t (leave outside ∷ [])) (tested_marks t (leave outside ∷ []))) (omega arith);
       fits = λ s p h e.
           let at = behind s t.code in
           behind_fits u r 0 s t.code (where_tested t (leave outside ∷ []) [] ∷ []) (m.fits s h e) (op_fits at (where_tested t (leave outside ∷ []) []) (tested_fits at t (leave outside ∷ []) (m.left s h) (m.right s h) (is_and (leave_fits u r at outside p) refl)));
@@ -131,7 +138,8 @@ module _ (u : RegionUnit) (r : Routine) where
               (let w = tested_weight t ops in let v = weight_append body.ops (leave 0 ∷ []) in let l = d.grows.light in omega arith)
               (let f = d.grows.few in omega arith)
               (subst (AreFrom t.code.next) (sym (tested_defined t ops ∙ e)) i.values)
-              (let q = ap length (tested_defined t ops ∙ e) in let l = i.last in omega arith)) (omega (arith, le));
+              (let q = ap length (tested_defined t ops ∙ e) in let l = i.last in omega arith)
+              (tested_marks t ops ∙ marks_append body.ops (leave 0 ∷ []) ∙ append-nil (marks_list body.ops) ∙ d.grows.unguarded refl)) (omega (arith, le));
           fits = λ s p h z.
               let at = behind s t.code in
               let inner = d.fits at p.0 (sees_more at [] (known k names) (still_sees s (known k names) m.grows h)) refl in
@@ -144,7 +152,7 @@ module _ (u : RegionUnit) (r : Routine) where
     once_does R {a} {most} {code} {inner} d into le =
         let i = d.grows.tidy code.next (begun_inside code) in
         record {
-          grows = operation_grows most inner.next code (once inner.ops) (let w = weight_once inner.ops in let l = d.grows.light in omega (arith, le)) (let f = d.grows.few in omega (arith, le)) (subst (AreFrom code.next) (sym (defined_once inner.ops)) i.values) (let q = ap length (defined_once inner.ops) in let l = i.last in omega arith);
+          grows = operation_grows most inner.next code (once inner.ops) (let w = weight_once inner.ops in let l = d.grows.light in omega (arith, le)) (let f = d.grows.few in omega (arith, le)) (subst (AreFrom code.next) (sym (defined_once inner.ops)) i.values) (let q = ap length (defined_once inner.ops) in let l = i.last in omega arith) (marks_once inner.ops ∙ d.grows.unguarded refl);
           fits = λ s p h z.
               let at = behind s code in
               behind_fits u r 0 s code (once inner.ops ∷ []) z (op_fits at (once inner.ops) (once_fits u r at inner.ops (d.fits (looped at 0) (into s.loops p) (sees_also at (with (looped at 0) []) (known k names) (λ v. kept_front at.values [] v) h) refl)));
@@ -154,7 +162,7 @@ module _ (u : RegionUnit) (r : Routine) where
     repeat_does R {a} {most} {code} {inner} d into le =
         let i = d.grows.tidy code.next (begun_inside code) in
         record {
-          grows = operation_grows most inner.next code (repeat inner.ops) (let w = weight_repeat inner.ops in let l = d.grows.light in omega (arith, le)) (let f = d.grows.few in omega (arith, le)) (subst (AreFrom code.next) (sym (defined_repeat inner.ops)) i.values) (let q = ap length (defined_repeat inner.ops) in let l = i.last in omega arith);
+          grows = operation_grows most inner.next code (repeat inner.ops) (let w = weight_repeat inner.ops in let l = d.grows.light in omega (arith, le)) (let f = d.grows.few in omega (arith, le)) (subst (AreFrom code.next) (sym (defined_repeat inner.ops)) i.values) (let q = ap length (defined_repeat inner.ops) in let l = i.last in omega arith) (marks_repeat inner.ops ∙ d.grows.unguarded refl);
           fits = λ s p h z.
               let at = behind s code in
               behind_fits u r 0 s code (repeat inner.ops ∷ []) z (op_fits at (repeat inner.ops) (repeat_fits u r at inner.ops (d.fits (looped at 0) (into s.loops p) (sees_also at (with (looped at 0) []) (known k names) (λ v. kept_front at.values [] v) h) refl)));

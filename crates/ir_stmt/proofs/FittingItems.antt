@@ -16,8 +16,8 @@ use Rattle.tu_expr.specs.Forms.{Present, Absent, More, NoMore, Behind}
 use Rattle.tu_tree.specs.Forms.{ItemConst, ItemVar, ItemType, ItemSubprogram, ItemModule, ItemStatement, CollectionDeclaration, StartedDeclaration, TypedDeclaration, ValueStart, Names, Separated}
 use Rattle.tu_tree.specs.Parts.{separated}
 use Rattle.tu_tree.specs.TypeViews.{named}
-use Rattle.tu_meaning.specs.Interpreter.{names_of, more_names}
-use Rattle.tu_meaning.specs.Values.{Variable}
+use Rattle.tu_tree_meaning.specs.Interpreter.{names_of, more_names}
+use Rattle.tu_tree_meaning.specs.Values.{Variable}
 use Rattle.tu_value.specs.Pieces.{with_piece}
 use Rattle.tu_value.specs.declared.pieces.Fixed.{Fixed}
 use Rattle.ir_build.specs.Behind.{Grows, IsFit, Makes, SeesAll, behind, known}
@@ -73,7 +73,7 @@ module _ (u : RegionUnit) (r : Routine) (calls : Calls u r) (k : Fixed) where
   one_declared x d =
       let n = d.code.next in
       let ops = declare_code k (length d.names) n in
-      let g = behind_grows 2 1 d.code ops (omega arith) (omega arith) (refl, tt) refl in
+      let g = behind_grows 2 1 d.code ops (omega arith) (omega arith) (refl, tt) refl refl in
       record {
         grows = g;
         fewer = omega arith;

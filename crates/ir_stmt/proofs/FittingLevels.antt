@@ -6,7 +6,7 @@ use Rattle.grammar.specs.Tree.{Mark, n-rule, n-sequence, n-left, n-right, height
 use Rattle.tu_base.specs.declared.kind.Kind.TheVariants.{Range}
 use Rattle.ir_form.specs.declared.unit.Routine.{Routine}
 use Rattle.ir_form.specs.declared.unit.Unit.{Unit as RegionUnit}
-use Rattle.ir_form.specs.Values.{defined_list}
+use Rattle.ir_form.specs.Values.{defined_list, marks_list}
 use Rattle.ir_form.specs.Valid.{Scope, with}
 use Rattle.ir_form.specs.Weight.{weight_list}
 use Rattle.ir_code.specs.Pieces.{call, leave, with_op}
@@ -19,7 +19,7 @@ use Rattle.tu_expr.specs.Forms.{Present, Absent, More, NoMore, Behind, Listed, P
 use Rattle.tu_tree.specs.Forms.{Block, BlockConst, BlockVar, BlockType, BlockBind, BlockStatement, If, Loop, Simple, Exit, ExitWhen, Put, Shown, Elsif, Separated}
 use Rattle.tu_tree.specs.Parts.{separated}
 use Rattle.tu_tree.specs.StatementViews.{simple, block_part}
-use Rattle.tu_meaning.specs.Values.{Variable, variable_of}
+use Rattle.tu_tree_meaning.specs.Values.{Variable, variable_of}
 use Rattle.tu_value.specs.Pieces.{with_piece, store_code}
 use Rattle.tu_value.specs.declared.pieces.Fixed.{Fixed}
 use Rattle.ir_build.specs.Behind.{AreFrom, Makes, Seen, SeesAll, behind, known}
@@ -47,6 +47,10 @@ width_values : (k : Fixed) (line value n : ℕ) → AreFrom n (defined_list (wid
 unfolding Rattle.ir_form.specs.declared.op.Op.TheBlock.hidden-the_row-Op-0 denote.Hole.Carrier.hidden
 width_values k line value n = ((refl, (refl, tt)), refl)
 
+width_unguarded : (k : Fixed) (line value n : ℕ) → marks_list (width_code k line value n) ≡ []
+unfolding Rattle.ir_form.specs.declared.op.Op.TheBlock.hidden-the_row-Op-0 denote.Hole.Carrier.hidden
+width_unguarded k line value n = refl
+
 module _ (u : RegionUnit) (r : Routine) (calls : Calls u r) (k : Fixed) (names : List Named) where
   -- nothing is asked of the loops
   abbrev pub Any : List ℕ → Type 0
@@ -69,7 +73,7 @@ module _ (u : RegionUnit) (r : Routine) (calls : Calls u r) (k : Fixed) (names :
       let w = width_weight k line x.value n in
       let v = width_values k line x.value n in
       record {
-        grows = grows_then m.grows (behind_grows 4 2 x.code ops (omega arith) (omega arith) v.0 v.1) (omega arith);
+        grows = grows_then m.grows (behind_grows 4 2 x.code ops (omega arith) (omega arith) v.0 v.1 (width_unguarded k line x.value n)) (omega arith);
         fits = λ s h z. behind_fits u r 2 s x.code ops (m.fits s h z) (width_fits (behind s x.code) line x.value n (m.seen s h, ((still_sees s (known k names) m.grows h).1.0, tt)));
         seen = λ s h. subst (λ i. Seen s (with_piece x.code ops 2) i) (let q : n ≡ n + 0 = omega arith in q) (behind_seen 2 s x.code ops n (here n ((n + 1) ∷ [])));
       }
@@ -82,7 +86,7 @@ module _ (u : RegionUnit) (r : Routine) (calls : Calls u r) (k : Fixed) (names :
       let b = width_made line width x.code in
       let op = call put_int (x.value ∷ w.value ∷ []) line in
       record {
-        grows = grows_then {a = 12 * tokens_in e + 12 * tokens_in width} (grows_then a.grows b.grows (omega arith)) (pushed_grows 3 w.code op (omega arith) refl) (omega arith);
+        grows = grows_then {a = 12 * tokens_in e + 12 * tokens_in width} (grows_then a.grows b.grows (omega arith)) (pushed_grows 3 w.code op (omega arith) refl refl) (omega arith);
         fits = λ s p h z.
             let g = still_sees s (known k names) a.grows h in
             behind_fits u r 0 s w.code (op ∷ []) (b.fits s g (a.fits s h z)) (op_fits u r (behind s w.code) op (put_int_fits u r calls (behind s w.code) x.value w.value line (b.grows.kept s x.value (a.seen s h)) (b.seen s g)));
@@ -95,7 +99,7 @@ module _ (u : RegionUnit) (r : Routine) (calls : Calls u r) (k : Fixed) (names :
 
   end_does : (line : ℕ) (dots : Part (maybe (lexeme SignRange))) (code : Code) → Does u r k names Any 1 code (code_end k names line dots code)
   end_does line Absent code = record {
-    grows = pushed_grows 1 code (call put_line [] line) (omega arith) refl;
+    grows = pushed_grows 1 code (call put_line [] line) (omega arith) refl refl;
     fits = λ s p h e. behind_fits u r 0 s code (call put_line [] line ∷ []) e (op_fits u r (behind s code) (call put_line [] line) (put_line_fits u r calls (behind s code) line));
   }
   end_does line (Present sign) code = nothing_does u r k names Any 1 code

@@ -14,10 +14,10 @@ use Rattle.ir_form.specs.Meaning.{run_list}
 use Rattle.ir_form.specs.State.{State as CodeState, Next as goes_on, Run, next, on_run}
 use Rattle.ir_code.proofs.Running.{runs_in_order}
 use Rattle.ir_code.proofs.Steps.{set, set_same, set_below}
-use Rattle.tu_meaning.specs.Steps.{Added, Outcome, State, Step, pay, change, ◌>>◌}
-use Rattle.tu_meaning.specs.Store.{Store, by_copying, assign_root}
-use Rattle.tu_meaning.specs.Values.{Unset, Variable, Global}
-use Rattle.tu_meaning.specs.Interpreter.{declare_all}
+use Rattle.tu_tree_meaning.specs.Steps.{Added, Outcome, State, Step, pay, change, ◌>>◌}
+use Rattle.tu_tree_meaning.specs.Store.{Store, by_copying, assign_root}
+use Rattle.tu_tree_meaning.specs.Values.{Unset, Variable, Global}
+use Rattle.tu_tree_meaning.specs.Interpreter.{declare_all}
 use Rattle.tu_value.specs.Words.{word_of}
 use Rattle.tu_value.specs.Pieces.{unset_code}
 use Rattle.tu_value.specs.Meets.{HasFixed, StoresWord}

@@ -19,11 +19,11 @@ use Rattle.ir_code.proofs.Running.{runs_in_order}
 use Rattle.tu_token.specs.Rules.{r-program}
 use Rattle.tu_token.specs.Syntax.{Of}
 use Rattle.tu_tree.specs.Forms.{Program}
-use Rattle.tu_meaning.specs.Interpreter.{execute_items}
-use Rattle.tu_meaning.specs.Meaning.{verdict_of}
-use Rattle.tu_meaning.specs.Programs.{start as start_of, execution, meaning as program_meaning}
-use Rattle.tu_meaning.specs.Steps.{Added, Outcome, Done, Raised, Going}
-use Rattle.tu_meaning.specs.Store.{Store, by_copying}
+use Rattle.tu_tree_meaning.specs.Interpreter.{execute_items}
+use Rattle.tu_tree_meaning.specs.Meaning.{verdict_of}
+use Rattle.tu_tree_meaning.specs.Programs.{start as start_of, execution, meaning as program_meaning}
+use Rattle.tu_tree_meaning.specs.Steps.{Added, Outcome, Done, Raised, Going}
+use Rattle.tu_tree_meaning.specs.Store.{Store, by_copying}
 use Rattle.rt_stream.specs.Routines.{put_int_routine, put_line_routine}
 use Rattle.rt_stream.proofs.Calls.{put_int_meets, put_line_meets}
 use Rattle.tu_value.specs.Pieces.{fixed_from, fixed_code}

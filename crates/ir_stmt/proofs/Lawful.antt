@@ -10,7 +10,7 @@ use Rattle.ir_form.specs.State as region
 use Rattle.ir_form.specs.Units.{meaning}
 use Rattle.tu_token.specs.Rules.{r-program}
 use Rattle.tu_token.specs.Syntax.{Of}
-use Rattle.tu_meaning.specs.Programs.{meaning as program_meaning}
+use Rattle.tu_tree_meaning.specs.Programs.{meaning as program_meaning}
 use Rattle.ir_build.specs.Keeps.{factor}
 use Rattle.ir_stmt.specs.Unit.{start, region_verdict, IsKept}
 

@@ -15,10 +15,10 @@ use Rattle.tu_expr.specs.Forms.{Present, Absent, More, NoMore, Behind, Listed, P
 use Rattle.tu_tree.specs.Forms.{Block, BlockConst, BlockVar, BlockType, BlockBind, BlockStatement, If, Loop, Simple, Exit, ExitWhen, Put, Elsif, Separated}
 use Rattle.tu_tree.specs.Parts.{separated}
 use Rattle.tu_tree.specs.StatementViews.{simple, block_part}
-use Rattle.tu_meaning.specs.Interpreter.{Flow, Next, execute_simple, execute, execute_elsifs, execute_otherwise, execute_block, execute_parts}
-use Rattle.tu_meaning.specs.Steps.{Step, give}
-use Rattle.tu_meaning.specs.Store.{Store, by_copying}
-use Rattle.tu_meaning.specs.Values.{Variable}
+use Rattle.tu_tree_meaning.specs.Interpreter.{Flow, Next, execute_simple, execute, execute_elsifs, execute_otherwise, execute_block, execute_parts}
+use Rattle.tu_tree_meaning.specs.Steps.{Step, give}
+use Rattle.tu_tree_meaning.specs.Store.{Store, by_copying}
+use Rattle.tu_tree_meaning.specs.Values.{Variable}
 use Rattle.ir_build.specs.Keeps.{Named, Site}
 use Rattle.ir_build.specs.Code.{test_expr}
 use Rattle.ir_build.specs.Built.{is_built, is_built_path, is_tested}

@@ -10,8 +10,8 @@ use Rattle.tu_expr.specs.Parts.{Part}
 use Rattle.tu_tree.specs.Forms.{ItemVar, ItemStatement, StartedDeclaration, TypedDeclaration, Spec, IntType, ValueStart}
 use Rattle.tu_tree.specs.Parts.{separated}
 use Rattle.tu_tree.specs.ProgramViews.{program_view}
-use Rattle.tu_meaning.specs.Interpreter.{names_of}
-use Rattle.tu_meaning.specs.Values.{Variable}
+use Rattle.tu_tree_meaning.specs.Interpreter.{names_of}
+use Rattle.tu_tree_meaning.specs.Values.{Variable}
 use Rattle.tu_value.specs.Pieces.{with_piece, fixed_code, fixed_from}
 use Rattle.tu_value.specs.declared.pieces.Fixed.{Fixed}
 use Rattle.ir_build.specs.Keeps.{Named, variables_of}

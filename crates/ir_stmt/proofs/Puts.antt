@@ -6,8 +6,8 @@ use Rattle.ir_form.specs.declared.unit.Routine.{Routine}
 use Rattle.ir_form.specs.Cells.{Cells, byte_of, is_open, loaded, is_open_word, word_of as word_from}
 use Rattle.ir_form.specs.Place.{Setting, heap_at}
 use Rattle.ir_form.specs.State.{State as CodeState, Env, Run}
-use Rattle.tu_meaning.specs.Steps.{State}
-use Rattle.tu_meaning.specs.Store.{Store}
+use Rattle.tu_tree_meaning.specs.Steps.{State}
+use Rattle.tu_tree_meaning.specs.Store.{Store}
 use Rattle.rt_stream.specs.Laws.{Puts}
 use Rattle.ir_build.specs.Keeps.{Named, Site, word_at, AllLie, Holds}
 

@@ -16,10 +16,10 @@ use Rattle.tu_expr.specs.Parts.{Part}
 use Rattle.tu_expr.specs.Forms.{Present, Absent, More, NoMore, Behind}
 use Rattle.tu_tree.specs.Forms.{ItemConst, ItemVar, ItemType, ItemSubprogram, ItemModule, ItemStatement, StartedDeclaration, TypedDeclaration, CollectionDeclaration, Spec, IntType, ValueStart, Separated}
 use Rattle.tu_tree.specs.Parts.{separated}
-use Rattle.tu_meaning.specs.Steps.{Added, Outcome, Done, Raised, Going, State, Step, give, ◌>>=◌, ◌>>◌}
-use Rattle.tu_meaning.specs.Store.{Store, by_copying}
-use Rattle.tu_meaning.specs.Values.{Variable}
-use Rattle.tu_meaning.specs.Interpreter.{Flow, Next, Exits, only_next, names_of, execute, execute_var, execute_item, execute_items}
+use Rattle.tu_tree_meaning.specs.Steps.{Added, Outcome, Done, Raised, Going, State, Step, give, ◌>>=◌, ◌>>◌}
+use Rattle.tu_tree_meaning.specs.Store.{Store, by_copying}
+use Rattle.tu_tree_meaning.specs.Values.{Variable}
+use Rattle.tu_tree_meaning.specs.Interpreter.{Flow, Next, Exits, only_next, names_of, execute, execute_var, execute_item, execute_items}
 use Rattle.ir_build.specs.Keeps.{Site, Holds, Post, Ends, Keeps, variables_of}
 use Rattle.ir_build.specs.Built.{is_built}
 use Rattle.ir_build.proofs.Words.{passes_next, keeps_flow, keeps_is, keeps_more, keeps_give}

@@ -17,23 +17,23 @@ use Rattle.ir_code.specs.Pieces.{call, constant, raise_unless}
 use Rattle.ir_code.specs.declared.code.Code.{Code}
 use Rattle.ir_code.proofs.Running.{runs_in_order}
 use Rattle.ir_code.proofs.Steps.{set, set_same, set_below, none, stops, ◌▸◌, ◌▹◌, constant_goes, check_goes, check_stops}
-use Rattle.tu_meaning.specs.Interpreter.{Flow, Next, execute_simple, evaluate, show, show_more, end_line, is_width, width_of, put, put_value}
+use Rattle.tu_tree_meaning.specs.Interpreter.{Flow, Next, execute_simple, evaluate, show, show_more, end_line, is_width, width_of, put, put_value}
 use Rattle.grammar.specs.Description.{rule}
 use Rattle.tu_token.specs.declared.class.Class.TheVariants.{SignComma, SignRange, WordPut}
 use Rattle.tu_token.specs.Rules.{r-shown, ◌⨟◌, many, maybe, t as lexeme}
 use Rattle.tu_expr.specs.Parts.{Part}
 use Rattle.tu_expr.specs.Forms.{Present, Absent, More, NoMore, Behind, Listed}
-use Rattle.tu_meaning.specs.Operators.{is_int}
-use Rattle.tu_meaning.specs.Steps.{State, Step, give, raise, pay, happen, ◌>>=◌, ◌>>◌}
-use Rattle.tu_meaning.specs.Store.{Store, by_copying}
-use Rattle.tu_meaning.specs.Values.{Value, Int, Variable}
+use Rattle.tu_tree_meaning.specs.Operators.{is_int}
+use Rattle.tu_tree_meaning.specs.Steps.{State, Step, give, raise, pay, happen, ◌>>=◌, ◌>>◌}
+use Rattle.tu_tree_meaning.specs.Store.{Store, by_copying}
+use Rattle.tu_tree_meaning.specs.Values.{Value, Int, Variable}
 use Rattle.tu_value.specs.Meets.{HasInt}
 use Rattle.tu_value.specs.Pieces.{number_code}
 use Rattle.tu_value.specs.Words.{word_of_int}
 use Rattle.tu_value.proofs.Leaves.{number_is_given}
 use Rattle.rt_stream.specs.Laws.{Puts, padded, put_int_rounds, put_int_most, put_line_most, HasRoom}
 use Rattle.rt_stream.specs.Routines.{put_int_routine, put_line_routine}
-use Rattle.ir_build.specs.Keeps.{Named, Site, Holds, Keeps, Met}
+use Rattle.ir_build.specs.Keeps.{factor, Named, Site, Holds, Keeps, Met}
 use Rattle.ir_build.specs.Code.{code_expr}
 use Rattle.ir_build.proofs.Conditions.{expressions_do}
 use Rattle.ir_build.proofs.Forms.{both}
@@ -69,14 +69,14 @@ module _ (x : Site) (calls : Calls) (rt : RunTime x calls) where
     met = λ enough.
         let bytes = padded width (signed_decimal z) in
         let n = length bytes in
-        let en : b + 120 * (32 + (n + 0)) ≤ x.most = enough in
-        let r = calls put_int (a ∷ w ∷ []) [] line st (c + 26) in
+        let en : b + factor * (32 + (n + 0)) ≤ x.most = enough in
+        let r = calls put_int (a ∷ w ∷ []) [] line st (c + 104) in
         let o = h.others in let rm = h.rooms in
-        let p : Puts x.setting put_int_routine bytes (put_int_most bytes) st (c + 26) r = rt.int a w line z width st (c + 26) ea ew small lw (omega arith) (omega arith) in
+        let p : Puts x.setting put_int_routine bytes (put_int_most bytes) st (c + 104) r = rt.int a w line z width st (c + 104) ea ew small lw (omega arith) (omega arith) in
         subst (λ f. Met x (GoesOn x left) tr b (put_value (Int z) width s).0 (put_value (Int z) width s).1 f) (sym (then_none r)) (record {
           world = p.world ∙ ap (λ v. traced v (map put_byte bytes)) wd ∙ ap (λ t. record x.world { trace = t }) (append_assoc x.world.trace tr (map put_byte bytes));
-          cost = let q = p.bound in let k : r.cost ≤ b + 120 * (32 + (n + 0)) + 0 = omega arith in k;
-          ends = record { way = p.how; holds = puts_holds x left s put_int_routine bytes (put_int_most bytes) st (c + 26) r (omega arith) (later (c + 26) (omega arith) h) p };
+          cost = let q = p.bound in let k : r.cost ≤ b + factor * (32 + (n + 0)) + 0 = omega arith in k;
+          ends = record { way = p.how; holds = puts_holds x left s put_int_routine bytes (put_int_most bytes) st (c + 104) r (omega arith) (later (c + 104) (omega arith) h) p };
         });
   }
     where
@@ -89,13 +89,13 @@ module _ (x : Site) (calls : Calls) (rt : RunTime x calls) where
   unfolding ◌>>=◌ pay happen
   line_keeps left line s st c tr b h wd le = record {
     met = λ enough.
-        let r = calls put_line [] [] line st (c + 14) in
+        let r = calls put_line [] [] line st (c + 90) in
         let o = h.others in let rm = h.rooms in
-        let p : Puts x.setting put_line_routine (10 ∷ []) put_line_most st (c + 14) r = rt.line line st (c + 14) (omega arith) in
+        let p : Puts x.setting put_line_routine (10 ∷ []) put_line_most st (c + 90) r = rt.line line st (c + 90) (omega arith) in
         subst (λ f. Met x (GoesOn x left) tr b (put (10 ∷ []) s).0 (put (10 ∷ []) s).1 f) (sym (then_none r)) (record {
           world = p.world ∙ ap (λ v. traced v (map put_byte (10 ∷ []))) wd ∙ ap (λ t. record x.world { trace = t }) (append_assoc x.world.trace tr (map put_byte (10 ∷ [])));
-          cost = let q = p.bound in let k : r.cost ≤ b + 120 * (1 + 0) + 0 = omega arith in k;
-          ends = record { way = p.how; holds = puts_holds x left s put_line_routine (10 ∷ []) put_line_most st (c + 14) r (omega arith) (later (c + 14) (omega arith) h) p };
+          cost = let q = p.bound in let k : r.cost ≤ b + factor * (1 + 0) + 0 = omega arith in k;
+          ends = record { way = p.how; holds = puts_holds x left s put_line_routine (10 ∷ []) put_line_most st (c + 90) r (omega arith) (later (c + 90) (omega arith) h) p };
         });
   }
     where

@@ -22,11 +22,11 @@ use Rattle.grammar.specs.Tree.{Mark}
 use Rattle.tu_token.specs.Syntax.{Of}
 use Rattle.tu_expr.specs.Forms.{NoMore, Path}
 use Rattle.tu_tree.specs.Forms.{Assign, Simple, Exit, ExitWhen}
-use Rattle.tu_meaning.specs.Interpreter.{Flow, Next, Exits, evaluate, condition, execute_simple, locate}
-use Rattle.tu_meaning.specs.Operators.{is_int}
-use Rattle.tu_meaning.specs.Steps.{State, Step, give, pay, change, ◌>>=◌, ◌>>◌}
-use Rattle.tu_meaning.specs.Store.{Store, by_copying, assign_root}
-use Rattle.tu_meaning.specs.Values.{Value, Int, Variable, variable_of, Place, place_of, Global}
+use Rattle.tu_tree_meaning.specs.Interpreter.{Flow, Next, Exits, evaluate, condition, execute_simple, locate}
+use Rattle.tu_tree_meaning.specs.Operators.{is_int}
+use Rattle.tu_tree_meaning.specs.Steps.{State, Step, give, pay, change, ◌>>=◌, ◌>>◌}
+use Rattle.tu_tree_meaning.specs.Store.{Store, by_copying, assign_root}
+use Rattle.tu_tree_meaning.specs.Values.{Value, Int, Variable, variable_of, Place, place_of, Global}
 use Rattle.tu_value.specs.Comparisons.{Comparison, compares}
 use Rattle.tu_value.specs.Words.{word_of, word_of_int}
 use Rattle.tu_value.specs.Pieces.{store_code}

@@ -6,9 +6,9 @@ use Rattle.std.proofs.lemmas.Slice.Eq.{bytes_eq-Decides}
 use Rattle.ir_form.specs.declared.plain.Width.TheVariants.{Word}
 use Rattle.ir_form.specs.Cells.{Cells, loaded, with_word}
 use Rattle.ir_form.specs.State.{State as CodeState}
-use Rattle.tu_meaning.specs.Steps.{State}
-use Rattle.tu_meaning.specs.Store.{Store, assign_root}
-use Rattle.tu_meaning.specs.Values.{Value, Unset, Int, Truth, Variable, Global}
+use Rattle.tu_tree_meaning.specs.Steps.{State}
+use Rattle.tu_tree_meaning.specs.Store.{Store, assign_root}
+use Rattle.tu_tree_meaning.specs.Values.{Value, Unset, Int, Truth, Variable, Global}
 use Rattle.tu_value.specs.Words.{word_of, IsSmall}
 use Rattle.tu_value.specs.Meets.{HoldsWord}
 use Rattle.tu_value.proofs.Cells.{store_keeps}

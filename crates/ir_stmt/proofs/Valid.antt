@@ -4,14 +4,15 @@ use Rattle.std.proofs.lemmas.Bool.Decides.{Decides-eqb, nat_tests}
 use Rattle.std.proofs.lemmas.List.Elements.{All-nil, All-cons}
 use Rattle.grammar.specs.Description.{print}
 use Rattle.grammar.specs.Tree.{erase}
-use Rattle.ir_form.specs.Values.{defined_list}
+use Rattle.ir_form.specs.declared.unit.Routine.{Routine}
+use Rattle.ir_form.specs.Values.{defined_list, marks_of}
 use Rattle.ir_form.specs.Valid.{outermost, IsOnce, IsValidRoutine, IsValid, leaves_list}
 use Rattle.ir_form.specs.Weight.{unit_weight}
 use Rattle.ir_form.specs.Tests.{fits_region}
 use Rattle.ir_form.proofs.Decisions.{decides_region}
 use Rattle.ir_form.proofs.Tallies.{count-cons}
 use Rattle.rt_stream.specs.Routines.{put_int_routine, put_line_routine}
-use Rattle.rt_stream.proofs.Valid.{are_valid, are_light}
+use Rattle.rt_stream.proofs.Valid.{are_valid, are_unguarded, are_light}
 use Rattle.tu_token.specs.Rules.{r-program}
 use Rattle.tu_token.specs.Syntax.{Of}
 use Rattle.tu_tree.specs.Forms.{Program}
@@ -22,7 +23,7 @@ use Rattle.ir_build.proofs.Tokens.{tokens_are}
 use Rattle.ir_build.proofs.Fits.{is_and}
 use Rattle.ir_build.proofs.Regions.{none_taken}
 use Rattle.ir_stmt.specs.Built.{is_program_built}
-use Rattle.ir_stmt.specs.Unit.{begun, code_program, main_routine, unit_of}
+use Rattle.ir_stmt.specs.Unit.{begun, code_program, main_routine, unit_of, HasNoGuards}
 use Rattle.ir_stmt.proofs.Fitting.{Calls}
 use Rattle.ir_stmt.proofs.FittingItems.{Declares, items_do}
 
@@ -82,11 +83,15 @@ main_fits tree b =
     let f = (program_declares tree).fits outermost b (omega arith) (refl, (refl, (refl, tt))) refl in
     is_and f.0 (none_taken (leaves_list false d.code.ops))
 
+main_is_unguarded : (tree : Of r-program) → marks_of (main_routine (code_program tree)) ≡ []
+main_is_unguarded tree = (program_declares tree).grows.unguarded refl
+
 main_is_valid : (tree : Of r-program) → is_program_built tree ≡ true → IsValidRoutine (unit_of tree) (main_routine (code_program tree))
 main_is_valid tree b =
     let u = unit_of tree in let d = code_program tree in let r = main_routine d in
     let t = (program_declares tree).grows.tidy 0 begun_tidy in
     let l = t.last in
+    let g = ap length (main_is_unguarded tree) in
     record {
       once = all_once (defined_list d.code.ops) t.values;
       body = (decides_region u r outermost 0 0 r.body).0 (main_fits tree b);
@@ -103,6 +108,12 @@ program_is_valid tree b le =
       routines = All-cons (IsValidRoutine u) put_int_routine (put_line_routine ∷ main_routine (code_program tree) ∷ []) v.0 (All-cons (IsValidRoutine u) put_line_routine (main_routine (code_program tree) ∷ []) v.1 (All-cons (IsValidRoutine u) (main_routine (code_program tree)) [] (main_is_valid tree b) (All-nil (IsValidRoutine u))));
       main = record { depth = refl; room = omega arith; parameters = refl; results = refl };
     }
+
+-- the unit of a program has no Guards
+pub program_is_unguarded : (tree : Of r-program) → HasNoGuards (unit_of tree)
+program_is_unguarded tree =
+    let free = λ (r : Routine). marks_of r ≡ [] in let main = main_routine (code_program tree) in
+    All-cons free put_int_routine (put_line_routine ∷ main ∷ []) are_unguarded.0 (All-cons free put_line_routine (main ∷ []) are_unguarded.1 (All-cons free main [] (main_is_unguarded tree) (All-nil free)))
 
 -- the unit of a program is light
 pub program_is_light : (tree : Of r-program) → length (print (erase tree)) ≤ 65536 → unit_weight (unit_of tree) ≤ 1179648

@@ -10,7 +10,7 @@ use Rattle.tu_expr.specs.Parts.{Part}
 use Rattle.tu_expr.specs.Views.{signed, multiplied}
 use Rattle.tu_expr.specs.Levels.{OnlySum, OnlyPrimary}
 use Rattle.tu_expr.specs.Forms.{NoMore, More, Sum, Term, Added, Subtracted, Multiplied, Divided, Reduced, NumberValue, TrueValue, FalseValue, PathValue, Brackets, TextValue, NilValue, Path}
-use Rattle.tu_meaning.specs.Values.{Variable, variable_of}
+use Rattle.tu_tree_meaning.specs.Values.{Variable, variable_of}
 use Rattle.ir_build.specs.Built.{is_declared, is_built, is_built_sum, are_built_terms, is_built_term, are_built_factors, is_built_prefix, is_built_primary}
 use Rattle.ir_build.proofs.Forms.{no_so, both}
 use Rattle.ir_stmt.specs.Built.{with_names}

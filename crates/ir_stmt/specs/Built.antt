@@ -9,8 +9,8 @@ use Rattle.tu_expr.specs.Forms.{Present, Absent, More, NoMore, Behind, Listed}
 use Rattle.tu_tree.specs.Forms.{Program, ItemVar, ItemStatement, StartedDeclaration, TypedDeclaration, Spec, IntType, ValueStart, Block, BlockStatement, Assign, If, Loop, Simple, Exit, ExitWhen, Put, Shown, Elsif, Separated}
 use Rattle.tu_tree.specs.Parts.{separated}
 use Rattle.tu_tree.specs.StatementViews.{block_part}
-use Rattle.tu_meaning.specs.Values.{Variable}
-use Rattle.tu_meaning.specs.Interpreter.{names_of}
+use Rattle.tu_tree_meaning.specs.Values.{Variable}
+use Rattle.tu_tree_meaning.specs.Interpreter.{names_of}
 use Rattle.ir_build.specs.Built.{is_declared, is_built, is_built_path, is_tested}
 
 module _ (declared : List Variable) where

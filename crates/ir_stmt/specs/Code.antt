@@ -14,8 +14,8 @@ use Rattle.tu_expr.specs.Parts.{Part}
 use Rattle.tu_tree.specs.Forms.{ItemVar, ItemStatement, Block, BlockStatement, StartedDeclaration, TypedDeclaration, ValueStart, Assign, If, Loop, Simple, Exit, ExitWhen, Put, Shown, Elsif, Separated}
 use Rattle.tu_tree.specs.Parts.{separated}
 use Rattle.tu_tree.specs.StatementViews.{block_part}
-use Rattle.tu_meaning.specs.Interpreter.{names_of}
-use Rattle.tu_meaning.specs.Values.{Variable, variable_of}
+use Rattle.tu_tree_meaning.specs.Interpreter.{names_of}
+use Rattle.tu_tree_meaning.specs.Values.{Variable, variable_of}
 use Rattle.tu_value.specs.Pieces.{with_piece, number_code, store_code, unset_code}
 use Rattle.tu_value.specs.declared.pieces.Fixed.{Fixed}
 use Rattle.ir_build.specs.Keeps.{Named}

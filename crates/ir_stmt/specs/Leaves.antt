@@ -1,9 +1,9 @@
 -- How the code of a statement ends.
 use Rattle.std.specs.Prelude.{◌≡◌, ℕ, Bool, true, []}
 use Rattle.ir_form.specs.State.{State as CodeState, How, Next as goes_on, Left}
-use Rattle.tu_meaning.specs.Interpreter.{Flow, Next, Exits}
-use Rattle.tu_meaning.specs.Steps.{State}
-use Rattle.tu_meaning.specs.Store.{Store}
+use Rattle.tu_tree_meaning.specs.Interpreter.{Flow, Next, Exits}
+use Rattle.tu_tree_meaning.specs.Steps.{State}
+use Rattle.tu_tree_meaning.specs.Store.{Store}
 use Rattle.ir_build.specs.Keeps.{Site, Holds}
 
 -- It goes on, or leaves the innermost loop of the program, which lies so many loops outside. There is one where it is inside one.

@@ -9,7 +9,7 @@ use Rattle.tu_token.specs.Rules.{r-expr, r-item, r-path}
 use Rattle.tu_token.specs.Syntax.{Of}
 use Rattle.tu_expr.specs.Forms.{NoMore, Path}
 use Rattle.tu_tree.specs.Forms.{ItemVar}
-use Rattle.tu_meaning.specs.Values.{Variable, variable_of}
+use Rattle.tu_tree_meaning.specs.Values.{Variable, variable_of}
 use Rattle.tu_value.specs.declared.pieces.Fixed.{Fixed}
 use Rattle.ir_build.specs.Code.{where_tested, named, code_expr, test_expr}
 use Rattle.ir_build.specs.Keeps.{Named}

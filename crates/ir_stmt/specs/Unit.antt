@@ -1,5 +1,5 @@
 -- The unit of a program, and what it keeps of the program's meaning.
-use Rattle.std.specs.Prelude.{◌≡◌, ℕ, ◌+◌, ◌*◌, ◌≤◌, List, [], ◌∷◌, length, Option}
+use Rattle.std.specs.Prelude.{◌≡◌, ℕ, ◌+◌, ◌*◌, ◌≤◌, List, [], ◌∷◌, length, All, Option}
 use Rattle.tu_base.specs.Files.{Files}
 use Rattle.tu_base.specs.Kind.{kind_number}
 use Rattle.tu_base.specs.declared.event.Verdict.{Verdict}
@@ -10,13 +10,14 @@ use Rattle.ir_form.specs.declared.unit.Unit.{Unit as RegionUnit}
 use Rattle.ir_form.specs.Place.{Place, IsPlace}
 use Rattle.ir_form.specs.State as region
 use Rattle.ir_form.specs.Units.{meaning}
+use Rattle.ir_form.specs.Values.{marks_of}
 use Rattle.tu_token.specs.Rules.{r-program}
 use Rattle.tu_token.specs.Syntax.{Of}
 use Rattle.tu_tree.specs.Forms.{Program}
 use Rattle.rt_stream.specs.Routines.{put_int_routine, put_line_routine}
-use Rattle.tu_meaning.specs.Programs.{meaning as program_meaning}
+use Rattle.tu_tree_meaning.specs.Programs.{meaning as program_meaning}
 use Rattle.tu_value.specs.Pieces.{fixed_from, fixed_code}
-use Rattle.ir_build.specs.Keeps.{factor}
+use Rattle.ir_build.specs.Keeps.{factor, exception_most}
 use Rattle.ir_stmt.specs.Code.{Declared, code_items}
 
 -- The main program begins with the two fixed values, which are its values 0 and 1.
@@ -36,9 +37,9 @@ unit_of tree =
     let d = code_program tree in
     record { globals = length d.names; main = 2; routines = put_int_routine ∷ put_line_routine ∷ main_routine d ∷ []; texts = [] }
 
--- what a unit costs beside its statements
+-- what a unit costs beside its statements: its fixed values and its end, and an exception
 abbrev pub start : ℕ
-start = 200
+start = 300 + exception_most
 
 abbrev pub region_verdict : Verdict → region.Verdict
 region_verdict Ended = region.Ended
@@ -50,6 +51,10 @@ pub record KeepsProgram (tree : Of r-program) (unit : RegionUnit) (place : Place
   pub trace : (meaning unit place input folder t s).trace ≡ (program_meaning tree input files t).trace
   pub verdict : (meaning unit place input folder t s).verdict ≡ region_verdict (program_meaning tree input files t).verdict
   pub cost : (meaning unit place input folder t s).cost ≤ factor * (program_meaning tree input files t).units + start
+
+-- no routine has a Guard
+abbrev pub HasNoGuards : RegionUnit → Type 0
+HasNoGuards unit = All (λ r. marks_of r ≡ []) unit.routines
 
 abbrev pub IsKept : Of r-program → RegionUnit → Type 0
 IsKept tree unit = (place : Place) (input : List ℕ) (folder : Folder) (files : Option Files) (t s : ℕ) → IsPlace place (length unit.texts) →

@@ -1,6 +1,6 @@
 // The code of declarations.
 ghost use Rattle.std.specs.Prelude.{◌≡◌, ◌+◌, ◌*◌, ◌<◌, ◌≤◌, [], ◌∷◌, None, OnOk, length, true};
-ghost use Rattle.tu_meaning.specs.Interpreter.{names_of};
+ghost use Rattle.tu_tree_meaning.specs.Interpreter.{names_of};
 ghost use Rattle.tu_value.specs.declared.pieces.Fixed.{Fixed};
 ghost use Rattle.ir_build.specs.Keeps.{variables_of};
 ghost use Rattle.ir_build.specs.Code.{named};

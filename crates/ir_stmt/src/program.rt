@@ -11,7 +11,7 @@ ghost use Rattle.ir_build.specs.Tokens.{tokens_in};
 ghost use Rattle.ir_stmt.specs.Built.{are_new, is_program_built};
 ghost use Rattle.ir_stmt.specs.Code.{code_item};
 ghost use Rattle.ir_stmt.specs.Made.{declared, names_in_item, whole_unit};
-ghost use Rattle.ir_stmt.specs.Unit.{IsKept, unit_of};
+ghost use Rattle.ir_stmt.specs.Unit.{HasNoGuards, IsKept, unit_of};
 
 use crate::declarations::declaration;
 use crate::statements::statement;
@@ -105,6 +105,7 @@ pub fn unit(alloc: Global, checked: &Checked) -> Result<Unit, Memory>
     ensures lawful { IfOk result (λ unit. IsLawful unit) }
     ensures weight { IfOk result (λ unit. unit_weight unit ≤ 1179648) }
     ensures texts { IfOk result (λ unit. length unit.texts ≤ MOST_LITERAL_BYTES) }
+    ensures unguarded { IfOk result (λ unit. HasNoGuards unit) }
 {
     accepted_has_limits();
     run_is_steady();

@@ -10,8 +10,9 @@ use Rattle.ir_form.specs.Place.{Setting, end_at}
 use Rattle.ir_form.specs.State.{State, Next, Run}
 use Rattle.ir_form.specs.Units.{calls_within}
 use Rattle.ir_form.specs.Valid.{IsValidRoutine}
+use Rattle.ir_form.specs.Values.{marks_of}
 use Rattle.ir_form.specs.Weight.{routine_weight}
-use Rattle.tu_meaning.specs.Operators.{is_int}
+use Rattle.tu_tree_meaning.specs.Operators.{is_int}
 use Rattle.tu_value.specs.Words.{word_of_int}
 use Rattle.rt_stream.specs.Routines.{put_int_routine, put_line_routine}
 
@@ -38,6 +39,7 @@ pub record Puts (g : Setting) (r : Routine) (bytes : List ℕ) (most : ℕ) (st 
   pub deeper : f.state.deeper ≡ st.deeper
   pub frame : f.state.frame ≡ st.frame
   pub taken : f.state.taken ≡ st.taken
+  pub marks : f.state.marks ≡ st.marks
   pub cells : (a : ℕ) → (a < frame_of g r st) ⊎ (frame_of g r st + 4 * r.words ≤ a) → f.state.cells a ≡ st.cells a
   pub paid : st.others + c ≤ f.state.others + f.cost
   pub begun : c ≤ f.cost
@@ -77,6 +79,10 @@ PutIntIsCheap = (bytes : List ℕ) → put_int_most bytes ≤ 100 * (32 + length
 -- the routines may stand in every unit
 abbrev pub AreValid : Type 0
 AreValid = (u : RegionUnit) → IsValidRoutine u put_int_routine × IsValidRoutine u put_line_routine
+
+-- and have no Guards
+abbrev pub AreUnguarded : Type 0
+AreUnguarded = (marks_of put_int_routine ≡ []) × (marks_of put_line_routine ≡ [])
 
 -- how much both weigh at most
 abbrev pub most_weight : ℕ

@@ -1,6 +1,6 @@
 // The routine that puts an int in decimal. The text is stored from its end on, byte before byte.
 
-ghost use Rattle.std.specs.Prelude.{◌≡◌, [], ◌∷◌, IfOk};
+ghost use Rattle.std.specs.Prelude.{◌≡◌, [], ◌∷◌, ◌++◌, IfOk};
 ghost use Rattle.ir_form.specs.declared.op.Op.TheViews.{If};
 ghost use Rattle.rv_isa.specs.declared.instr.Relation.TheVariants.{LessUnsigned};
 ghost use Rattle.rt_stream.specs.Routines.{blank_ops, blanks_op, digit_ops, digits_op, magnitude_op, put_int_ops, put_int_routine, sign_op, value_ops};
@@ -204,14 +204,22 @@ fn values(alloc: Global) -> Result<Code, Memory>
     Ok(code)
 }
 
-// The text of the number is stored, and put at the end.
-fn int_ops(alloc: Global) -> Result<Items<Op>, Memory>
-    ensures { IfOk result (λ ops. ops ≡ put_int_ops) }
+// The values, and what stores the text of the number.
+fn number_text(alloc: Global) -> Result<Code, Memory>
+    ensures { IfOk result (λ code. code ≡ record { ops = value_ops ++ magnitude_op ∷ digits_op ∷ sign_op ∷ []; next = 11 }) }
 {
     let mut code = values(alloc)?;
     code.push(magnitude(alloc)?)?;
     code.push(digits(alloc)?)?;
     code.push(sign(alloc)?)?;
+    Ok(code)
+}
+
+// The text of the number is stored with blanks before it, and put at the end.
+fn int_ops(alloc: Global) -> Result<Items<Op>, Memory>
+    ensures { IfOk result (λ ops. ops ≡ put_int_ops) }
+{
+    let mut code = number_text(alloc)?;
     code.push(compute(WIDTH_BEGINS, RegisterOp::Sub, END, WIDTH))?;
     code.push(blanks(alloc)?)?;
     code.push(compute(TEXT_LENGTH, RegisterOp::Sub, END, TEXT_BEGINS))?;

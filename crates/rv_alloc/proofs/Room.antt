@@ -12,7 +12,7 @@ use Rattle.std.proofs.lemmas.Map.Made.{is_member-Decides, length-le_from_is_memb
 use Rattle.ir_form.specs.Lawful.{IsSound}
 use Rattle.rv_flat.specs.declared.linear.LinearRoutine.{LinearRoutine}
 use Rattle.rv_flat.specs.declared.linear.Linear.{Linear}
-use Rattle.rv_flat.specs.Parts.{code_plains, linear_numbers}
+use Rattle.rv_flat.specs.Parts.{code_plains, linear_numbers, linear_marks}
 use Rattle.rv_flat.specs.Units.{head_of}
 use Rattle.rv_flat.specs.Lawful.{IsLawful as IsLawfulLinear, depths_of}
 use Rattle.rv_alloc.specs.declared.place.Places.{Places}
@@ -50,12 +50,12 @@ few_different named values h =
     length-le_from_is_member nat_eq_equiv (unique_keys nat_eq named) values (distinct_unique named) (λ q m.
     (is_member-Decides Decides-eqb values q).1 (All-contains (Contains values) named q h ((is_member-Decides Decides-eqb named q).0 (sym (member_unique named q) ∙ m))))
 
-has_room : (globals texts : ℕ) (depths : List ℕ) (r : LinearRoutine) (p : Places) → IsSound globals texts depths (head_of r) (code_plains r.code) (linear_numbers r) → IsSlotted r p → HasRoom r p
+has_room : (globals texts : ℕ) (depths : List ℕ) (r : LinearRoutine) (p : Places) → IsSound globals texts depths (head_of r) (code_plains r.code) (linear_numbers r) (linear_marks r) → IsSlotted r p → HasRoom r p
 has_room globals texts depths r p sound slotted =
     let few = few_different (linear_numbers r) sound.values sound.known in let room = sound.few in let slots = slotted.slots in
     record { room = omega arith }
 
-rooms : (globals texts : ℕ) (depths : List ℕ) (rs : List LinearRoutine) (ps : List Places) → Each (λ r. IsSound globals texts depths (head_of r) (code_plains r.code) (linear_numbers r)) rs → AllZip IsSlotted rs ps → AllZip HasRoom rs ps
+rooms : (globals texts : ℕ) (depths : List ℕ) (rs : List LinearRoutine) (ps : List Places) → Each (λ r. IsSound globals texts depths (head_of r) (code_plains r.code) (linear_numbers r) (linear_marks r)) rs → AllZip IsSlotted rs ps → AllZip HasRoom rs ps
 rooms globals texts depths [] [] h k = tt
 rooms globals texts depths [] (p ∷ ps) h k = absurd k
 rooms globals texts depths (r ∷ rs) [] h k = absurd k

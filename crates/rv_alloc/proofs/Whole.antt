@@ -70,7 +70,7 @@ call_alike : (g : Setting) (cl cr : Calls) → CallsAlike cl cr → (f : ℕ →
     → Alike f named (calls_to g cl o arguments to line st c) (calls_to g cr q (map f arguments) (map f to) line (record st { env = e }) c)
 call_alike g cl cr calls f named one None None neither arguments to line st e c a k l = near f named _ st e c tt
 call_alike g cl cr calls f named one _ _ (both r p h) arguments to line st e c a k l =
-    called_alike g (number_at p) (linear_numbers r) (head_of r) (numbers_apart r p h) (names_parameters r) _ _ (body_alike g cl cr calls r p h) f named one arguments to line st e c a k l
+    called_alike g (number_at p) (linear_numbers r) (head_of r) f named (numbers_apart r p h) (names_parameters r) _ _ (body_alike g cl cr calls r p h) one arguments to line st e c a k l
 
 calls_alike : (g : Setting) (rs : List LinearRoutine) (ps : List Places) → AllZip HoldsRoutine rs ps → (n : ℕ) → CallsAlike (calls_within g rs n) (calls_within g (placed_routines rs ps) n)
 calls_alike g rs ps h zero = record { alike = λ f named one k arguments to line st e c a i j. near f named _ st e c tt }
@@ -115,6 +115,8 @@ holds_lawful l a h k =
     let own = subst P (sym h.code) k in
     record {
       sound = own.sound;
+      labels = own.labels;
+      once = own.once;
       never_stuck = λ place input folder t s i e.
           k.never_stuck place input folder t s (subst (λ (x : Linear). IsPlace place (length x.texts)) h.code i) (sym (ap (λ (m : Meant). m.verdict) (placed_same l a h place input folder t s)) ∙ e);
     }

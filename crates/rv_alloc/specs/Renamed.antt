@@ -3,9 +3,10 @@ use Rattle.std.specs.Prelude.{ℕ, map}
 use Rattle.rv_isa.specs.declared.service.Service.{Service}
 use Rattle.rv_isa.specs.declared.service.Service.TheVariants.{End, Stop, PutConsole, GetConsole, Open, Close, PutStream, GetStream, State}
 use Rattle.ir_form.specs.declared.plain.Plain.{Plain as PlainOp}
-use Rattle.ir_form.specs.declared.plain.Plain.TheVariants.{Constant, Global, Heap, Frame, Text, Compute, Load, Store, Ask, Call, Raise, Take, Give}
+use Rattle.ir_form.specs.declared.plain.Plain.TheVariants.{Constant, Global, Heap, Frame, Text, Compute, Load, Store, Ask, Call, Raise, Throw, Take, Give}
+use Rattle.rv_flat.specs.declared.linear.Handler.{Handler}
 use Rattle.rv_flat.specs.declared.linear.Instruction.{Instruction}
-use Rattle.rv_flat.specs.declared.linear.Instruction.TheVariants.{Plain, Branch, Within, Hand, Jump, Label, Back}
+use Rattle.rv_flat.specs.declared.linear.Instruction.TheVariants.{Plain, Guarded, Open as Opens, Branch, Within, Hand, Jump, Label, Back}
 use Rattle.rv_flat.specs.declared.linear.LinearRoutine.{LinearRoutine}
 
 abbrev pub renamed_service : (ℕ → ℕ) → Service → Service
@@ -31,11 +32,17 @@ renamed_plain f (Store width at from) = Store width (f at) (f from)
 renamed_plain f (Ask to service) = Ask (f to) (renamed_service f service)
 renamed_plain f (Call routine arguments to line) = Call routine (map f arguments) (map f to) line
 renamed_plain f (Raise kind line) = Raise kind line
+renamed_plain f (Throw kind line) = Throw (f kind) (f line)
 renamed_plain f (Take to words line) = Take (f to) (f words) line
 renamed_plain f (Give words) = Give (f words)
 
+abbrev pub renamed_handler : (ℕ → ℕ) → Handler → Handler
+renamed_handler f h = record h { to = map f h.to }
+
 abbrev pub renamed : (ℕ → ℕ) → Instruction → Instruction
 renamed f (Plain p) = Plain (renamed_plain f p)
+renamed f (Guarded p h) = Guarded (renamed_plain f p) (renamed_handler f h)
+renamed f (Opens mark) = Opens mark
 renamed f (Branch relation left right label) = Branch relation (f left) (f right) label
 renamed f (Within value range label) = Within (f value) range label
 renamed f (Hand to from) = Hand (map f to) (map f from)

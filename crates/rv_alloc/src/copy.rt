@@ -1,8 +1,12 @@
 // Copies of linear code.
 
 ghost use Rattle.std.specs.Prelude.{◌≡◌, IfOk};
+ghost use Rattle.rv_flat.specs.declared.linear.Instruction.TheVariants as linear;
 
-use rv_flat::{Instruction, Linear, LinearRoutine, copied_plain, copied_values};
+use ir_form::Plain;
+use rv_flat::{
+    Handler, Instruction, Linear, LinearRoutine, copied_handler, copied_plain, copied_values,
+};
 use sqlite_items::Items;
 use std::alloc::Global;
 use tu_base::{Bytes, Memory};
@@ -42,6 +46,14 @@ fn copied_routine(alloc: Global, r: &LinearRoutine) -> Result<LinearRoutine, Mem
     })
 }
 
+fn copied_guarded(alloc: Global, plain: &Plain, handler: &Handler) -> Result<Instruction, Memory>
+    ensures { IfOk result (λ copy. copy ≡ linear.Guarded plain.now handler.now) }
+{
+    let handler = copied_handler(alloc, handler)?;
+    let plain = copied_plain(alloc, plain)?;
+    Ok(Instruction::Guarded { plain, handler })
+}
+
 fn copied_instruction(alloc: Global, i: &Instruction) -> Result<Instruction, Memory>
     ensures { IfOk result (λ copy. copy ≡ i.now) }
 {
@@ -50,6 +62,8 @@ fn copied_instruction(alloc: Global, i: &Instruction) -> Result<Instruction, Mem
             let plain = copied_plain(alloc, plain)?;
             Ok(Instruction::Plain(plain))
         }
+        Instruction::Guarded { plain, handler } => copied_guarded(alloc, plain, handler),
+        Instruction::Open { mark } => Ok(Instruction::Open { mark: *mark }),
         Instruction::Branch {
             relation,
             left,

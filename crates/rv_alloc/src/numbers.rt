@@ -34,6 +34,11 @@ fn put_instruction(numbers: &mut Vec<u32>, i: &Instruction) -> Result<(), Memory
 {
     match i {
         Instruction::Plain(plain) => put_plain(numbers, plain),
+        Instruction::Guarded { plain, handler } => {
+            put_plain(numbers, plain)?;
+            put(numbers, handler.to.as_slice())
+        }
+        Instruction::Open { .. } => Ok(()),
         Instruction::Branch { left, right, .. } => put(numbers, &[*left, *right]),
         Instruction::Within { value, .. } => put(numbers, &[*value]),
         Instruction::Hand { to, from } => {
@@ -72,6 +77,7 @@ fn put_plain(numbers: &mut Vec<u32>, plain: &Plain) -> Result<(), Memory>
             put(numbers, to.as_slice())
         }
         Plain::Raise { .. } => Ok(()),
+        Plain::Throw { kind, line } => put(numbers, &[*kind, *line]),
         Plain::Take { to, words, .. } => put(numbers, &[*words, *to]),
         Plain::Give { words } => put(numbers, &[*words]),
     }

@@ -39,6 +39,7 @@ pub fn same_plain(a: &Plain, b: &Plain) -> bool
             line,
         } => is_call(b, *routine, arguments, to, *line),
         Plain::Raise { kind, line } => is_raise(b, *kind, *line),
+        Plain::Throw { kind, line } => is_throw(b, *kind, *line),
         Plain::Take { to, words, line } => is_take(b, *to, *words, *line),
         Plain::Give { words } => is_give(b, *words),
     }
@@ -157,6 +158,15 @@ fn is_raise(p: &Plain, kind: Kind, line: Line) -> bool
 {
     match p {
         Plain::Raise { kind: k, line: x } => *k == kind && *x == line,
+        _ => false,
+    }
+}
+
+fn is_throw(p: &Plain, kind: u32, line: u32) -> bool
+    ensures { IsTrue result ↔ (p.now ≡ plain.Throw kind line) }
+{
+    match p {
+        Plain::Throw { kind: x, line: y } => *x == kind && *y == line,
         _ => false,
     }
 }

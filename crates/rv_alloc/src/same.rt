@@ -5,7 +5,7 @@ ghost use Rattle.rv_flat.specs.declared.linear.Instruction.TheVariants as linear
 
 use crate::plain::{same_plain, same_values};
 use ir_form::{Plain, Range};
-use rv_flat::{Instruction, Linear, LinearRoutine};
+use rv_flat::{Handler, Instruction, Linear, LinearRoutine};
 use rv_isa::Relation;
 use sqlite_items::Items;
 
@@ -61,6 +61,8 @@ fn same_instruction(a: &Instruction, b: &Instruction) -> bool
 {
     match a {
         Instruction::Plain(plain) => is_plain(b, plain),
+        Instruction::Guarded { plain, handler } => is_guarded(b, plain, handler),
+        Instruction::Open { mark } => is_open(b, *mark),
         Instruction::Branch {
             relation,
             left,
@@ -84,6 +86,33 @@ fn is_plain(i: &Instruction, plain: &Plain) -> bool
 {
     match i {
         Instruction::Plain(other) => same_plain(other, plain),
+        _ => false,
+    }
+}
+
+fn same_handler(a: &Handler, b: &Handler) -> bool
+    ensures { IsTrue result ↔ (a.now ≡ b.now) }
+{
+    a.label == b.label && a.mark == b.mark && same_values(&a.to, &b.to)
+}
+
+fn is_guarded(i: &Instruction, plain: &Plain, handler: &Handler) -> bool
+    ensures { IsTrue result ↔ (i.now ≡ linear.Guarded plain.now handler.now) }
+{
+    match i {
+        Instruction::Guarded {
+            plain: other,
+            handler: h,
+        } => same_plain(other, plain) && same_handler(h, handler),
+        _ => false,
+    }
+}
+
+fn is_open(i: &Instruction, mark: u32) -> bool
+    ensures { IsTrue result ↔ (i.now ≡ linear.Open mark) }
+{
+    match i {
+        Instruction::Open { mark: other } => *other == mark,
         _ => false,
     }
 }

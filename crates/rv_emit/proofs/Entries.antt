@@ -9,8 +9,8 @@ use Rattle.std.specs.Prelude.{◌⊎◌}
 use Rattle.std.proofs.Common.{inl, inr}
 use Rattle.rv_flat.specs.declared.linear.LinearRoutine.{LinearRoutine}
 use Rattle.rv_flat.specs.declared.linear.Linear.{Linear}
-use Rattle.rv_layout.specs.Lengths.{routine_length, routines_length}
-use Rattle.rv_layout.specs.Text.{entry_at, routines_at}
+use Rattle.rv_text.specs.Lengths.{routine_length, routines_length}
+use Rattle.rv_text.specs.Text.{entry_at, routines_at}
 use Rattle.rv_emit.specs.Placed.{length_in}
 use Rattle.rv_emit.specs.Site.{word_count, HasLabels}
 use Rattle.rv_emit.specs.declared.site.Labels.{Labels}

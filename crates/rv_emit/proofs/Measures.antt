@@ -6,9 +6,9 @@ use Rattle.rv_alloc.specs.declared.place.Places.{Places}
 use Rattle.rv_alloc.specs.declared.assigned.Assigned.{Assigned}
 use Rattle.rv_alloc.specs.Places.{number_at}
 use Rattle.rv_alloc.specs.Assigned.{placed_routines, placed_code, assigned_size}
-use Rattle.rv_layout.specs.Agrees.{TextsAreLong, TextsAreSmall}
-use Rattle.rv_layout.specs.Lengths.{routines_length}
-use Rattle.rv_layout.specs.Text.{text_of}
+use Rattle.rv_text.specs.Agrees.{TextsAreLong, TextsAreSmall}
+use Rattle.rv_text.specs.Lengths.{routines_length}
+use Rattle.rv_text.specs.Text.{text_of}
 use Rattle.rv_emit.proofs.Renaming.{code_size_renamed}
 
 size_placed : (rs : List LinearRoutine) (ps : List Places) → routines_size (placed_routines rs ps) ≤ routines_size rs

@@ -7,14 +7,14 @@ use Rattle.std.proofs.lemmas.List.Elements.{All-map, All-weaker, All-same, All-f
 use Rattle.rv_isa.specs.declared.service.Service.{Service}
 use Rattle.rv_isa.specs.declared.service.Service.TheVariants.{End, Stop, PutConsole, GetConsole, Open, Close, PutStream, GetStream, State}
 use Rattle.ir_form.specs.declared.plain.Plain.{Plain as PlainOp}
-use Rattle.ir_form.specs.declared.plain.Plain.TheVariants.{Constant, Global, Heap, Frame, Text, Compute, Load, Store, Ask, Call, Raise, Take, Give}
+use Rattle.ir_form.specs.declared.plain.Plain.TheVariants.{Constant, Global, Heap, Frame, Text, Compute, Load, Store, Ask, Call, Raise, Throw, Take, Give}
 use Rattle.ir_form.specs.Lawful.{plain_numbers}
 use Rattle.ir_form.specs.Values.{asked}
 use Rattle.ir_form.proofs.Each.{front, back, both}
 use Rattle.rv_flat.specs.declared.linear.Instruction.{Instruction}
-use Rattle.rv_flat.specs.declared.linear.Instruction.TheVariants.{Plain, Branch, Within, Hand, Jump, Label, Back}
+use Rattle.rv_flat.specs.declared.linear.Instruction.TheVariants.{Plain, Guarded, Open as Opens, Branch, Within, Hand, Jump, Label, Back}
 use Rattle.rv_flat.specs.declared.linear.LinearRoutine.{LinearRoutine}
-use Rattle.rv_flat.specs.Parts.{gathered, instruction_numbers, linear_numbers, instruction_plains, code_plains, instruction_labels, instruction_targets, times, HasItsLabels, IsDistinct, plain_takers, instruction_takers, TakesOnce}
+use Rattle.rv_flat.specs.Parts.{gathered, instruction_numbers, linear_numbers, instruction_plains, code_plains, instruction_labels, instruction_targets, instruction_marks, IsUnguardedInstruction, IsUnguardedCode, times, HasItsLabels, IsDistinct, plain_takers, instruction_takers, TakesOnce}
 use Rattle.rv_flat.specs.Size.{instruction_size, code_size, plain_size}
 use Rattle.rv_alloc.specs.Renamed.{renamed, renamed_plain, renamed_service, renamed_routine}
 
@@ -49,11 +49,14 @@ module _ (f : ℕ → ℕ) where
   plain_renamed (Ask to service) = ap (λ xs. xs ++ f to ∷ []) (asked_renamed service) ∙ joined (asked service) (to ∷ [])
   plain_renamed (Call routine arguments to line) = joined arguments to
   plain_renamed (Raise kind line) = refl
+  plain_renamed (Throw kind line) = refl
   plain_renamed (Take to words line) = refl
   plain_renamed (Give words) = refl
 
   instruction_renamed : (i : Instruction) → instruction_numbers (renamed f i) ≡ map f (instruction_numbers i)
   instruction_renamed (Plain p) = plain_renamed p
+  instruction_renamed (Guarded p handler) = ap (λ xs. xs ++ map f handler.to) (plain_renamed p) ∙ joined (plain_numbers p) handler.to
+  instruction_renamed (Opens mark) = refl
   instruction_renamed (Branch relation left right label) = refl
   instruction_renamed (Within value range label) = refl
   instruction_renamed (Hand to from) = joined to from
@@ -72,6 +75,8 @@ module _ (f : ℕ → ℕ) where
 
   instruction_plains_renamed : (i : Instruction) → instruction_plains (renamed f i) ≡ map (renamed_plain f) (instruction_plains i)
   instruction_plains_renamed (Plain p) = refl
+  instruction_plains_renamed (Guarded p handler) = refl
+  instruction_plains_renamed (Opens mark) = refl
   instruction_plains_renamed (Branch relation left right label) = refl
   instruction_plains_renamed (Within value range label) = refl
   instruction_plains_renamed (Hand to from) = refl
@@ -85,9 +90,37 @@ module _ (f : ℕ → ℕ) where
       ap (λ xs. xs ++ code_plains (map (renamed f) is)) (instruction_plains_renamed i)
       ∙ (ap (λ xs. map (renamed_plain f) (instruction_plains i) ++ xs) (plains_renamed is) ∙ sym (map-append (renamed_plain f) (instruction_plains i) (code_plains is)))
 
+  pub marks_renamed : (code : List Instruction) → gathered instruction_marks (map (renamed f) code) ≡ gathered instruction_marks code
+  marks_renamed [] = refl
+  marks_renamed (Plain p ∷ is) = marks_renamed is
+  marks_renamed (Guarded p handler ∷ is) = ap (λ xs. handler.mark ∷ xs) (marks_renamed is)
+  marks_renamed (Opens mark ∷ is) = ap (λ xs. mark ∷ xs) (marks_renamed is)
+  marks_renamed (Branch relation left right label ∷ is) = marks_renamed is
+  marks_renamed (Within value range label ∷ is) = marks_renamed is
+  marks_renamed (Hand to from ∷ is) = marks_renamed is
+  marks_renamed (Jump label ∷ is) = marks_renamed is
+  marks_renamed (Label label marked ∷ is) = marks_renamed is
+  marks_renamed (Back values ∷ is) = marks_renamed is
+
+  unguarded_instruction : (i : Instruction) → IsUnguardedInstruction i → IsUnguardedInstruction (renamed f i)
+  unguarded_instruction (Plain p) h = tt
+  unguarded_instruction (Guarded p handler) h = h
+  unguarded_instruction (Opens mark) h = h
+  unguarded_instruction (Branch relation left right label) h = tt
+  unguarded_instruction (Within value range label) h = tt
+  unguarded_instruction (Hand to from) h = tt
+  unguarded_instruction (Jump label) h = tt
+  unguarded_instruction (Label label marked) h = tt
+  unguarded_instruction (Back values) h = tt
+
+  pub unguarded_renamed : (code : List Instruction) → IsUnguardedCode code → IsUnguardedCode (map (renamed f) code)
+  unguarded_renamed code h = All-map IsUnguardedInstruction (renamed f) code (All-weaker IsUnguardedInstruction (λ i. IsUnguardedInstruction (renamed f i)) unguarded_instruction code h)
+
   times_renamed : (l : ℕ) (code : List Instruction) → times l (map (renamed f) code) ≡ times l code
   times_renamed l [] = refl
   times_renamed l (Plain p ∷ is) = times_renamed l is
+  times_renamed l (Guarded p handler ∷ is) = times_renamed l is
+  times_renamed l (Opens mark ∷ is) = times_renamed l is
   times_renamed l (Branch relation left right label ∷ is) = times_renamed l is
   times_renamed l (Within value range label ∷ is) = times_renamed l is
   times_renamed l (Hand to from ∷ is) = times_renamed l is
@@ -98,6 +131,8 @@ module _ (f : ℕ → ℕ) where
   labels_renamed : (code : List Instruction) → gathered instruction_labels (map (renamed f) code) ≡ gathered instruction_labels code
   labels_renamed [] = refl
   labels_renamed (Plain p ∷ is) = labels_renamed is
+  labels_renamed (Guarded p handler ∷ is) = labels_renamed is
+  labels_renamed (Opens mark ∷ is) = labels_renamed is
   labels_renamed (Branch relation left right label ∷ is) = labels_renamed is
   labels_renamed (Within value range label ∷ is) = labels_renamed is
   labels_renamed (Hand to from ∷ is) = labels_renamed is
@@ -108,6 +143,8 @@ module _ (f : ℕ → ℕ) where
   targets_renamed : (code : List Instruction) → gathered instruction_targets (map (renamed f) code) ≡ gathered instruction_targets code
   targets_renamed [] = refl
   targets_renamed (Plain p ∷ is) = targets_renamed is
+  targets_renamed (Guarded p handler ∷ is) = ap (λ xs. handler.label ∷ xs) (targets_renamed is)
+  targets_renamed (Opens mark ∷ is) = targets_renamed is
   targets_renamed (Branch relation left right label ∷ is) = ap (λ xs. label ∷ xs) (targets_renamed is)
   targets_renamed (Within value range label ∷ is) = ap (λ xs. label ∷ xs) (targets_renamed is)
   targets_renamed (Hand to from ∷ is) = targets_renamed is
@@ -139,11 +176,14 @@ module _ (f : ℕ → ℕ) where
       plain (Ask to service) = refl
       plain (Call routine arguments to line) = rw (length-map arguments f, length-map to f) refl
       plain (Raise kind line) = refl
+      plain (Throw kind line) = refl
       plain (Take to words line) = refl
       plain (Give words) = refl
 
       one : (i : Instruction) → instruction_size (renamed f i) ≡ instruction_size i
       one (Plain p) = plain p
+      one (Guarded p handler) = plain p
+      one (Opens mark) = refl
       one (Branch relation left right label) = refl
       one (Within value range label) = refl
       one (Hand to from) = rw (length-map from f) refl
@@ -170,11 +210,15 @@ module _ (f : ℕ → ℕ) where
     plain_takers_renamed (Ask to service) h d = tt
     plain_takers_renamed (Call routine arguments to line) h d = (distinct_renamed to (back (Contains named) arguments to h) d.0, tt)
     plain_takers_renamed (Raise kind line) h d = tt
+    plain_takers_renamed (Throw kind line) h d = tt
     plain_takers_renamed (Take to words line) h d = tt
     plain_takers_renamed (Give words) h d = tt
 
     instruction_takers_renamed : (i : Instruction) → Each (Contains named) (instruction_numbers i) → Each IsDistinct (instruction_takers i) → Each IsDistinct (instruction_takers (renamed f i))
     instruction_takers_renamed (Plain p) h d = plain_takers_renamed p h d
+    instruction_takers_renamed (Guarded p handler) h d =
+        (distinct_renamed handler.to (back (Contains named) (plain_numbers p) handler.to h) d.0, plain_takers_renamed p (front (Contains named) (plain_numbers p) handler.to h) d.1)
+    instruction_takers_renamed (Opens mark) h d = tt
     instruction_takers_renamed (Branch relation left right label) h d = tt
     instruction_takers_renamed (Within value range label) h d = tt
     instruction_takers_renamed (Hand to from) h d = (distinct_renamed to (front (Contains named) to from h) d.0, tt)

@@ -10,9 +10,9 @@ use Rattle.rv_flat.specs.Units.{head_of}
 use Rattle.rv_flat.specs.declared.linear.LinearRoutine.{LinearRoutine}
 use Rattle.rv_flat.specs.declared.linear.Linear.{Linear}
 use Rattle.rv_layout.specs.Calling.{entering}
-use Rattle.rv_layout.specs.Lengths.{routine_length}
-use Rattle.rv_layout.specs.Words.{Addresses, code_words}
-use Rattle.rv_layout.specs.Text.{addresses, entry_at, label_at, shared_at, routine_words, routines_words}
+use Rattle.rv_text.specs.Lengths.{routine_length}
+use Rattle.rv_layout.specs.Words.{Addresses, code_words, far_jump}
+use Rattle.rv_text.specs.Text.{addresses, entry_at, label_at, shared_at, routine_words, routines_words}
 use Rattle.rv_emit.specs.declared.site.Site.{Site}
 use Rattle.rv_emit.specs.declared.site.Labels.{Labels}
 use Rattle.rv_emit.specs.Site.{addresses_of, label_place, IsSite}
@@ -36,14 +36,14 @@ module _ (l : Linear) (s : Site) (h : IsSite l s) (k : ℕ) where
 
   pub routine_pushed : (r : LinearRoutine) (labels : Labels) (out after target : List ℕ) → slice_get l.routines k ≡ Some r → slice_get s.labels.items k ≡ Some labels
       → out ++ codes_of (more_words k) ≡ target
-      → after ≡ out ++ codes_of (entering (head_of r) ++ code_words (addresses_of s) l.routines (head_of r) (label_place labels) r.code)
+      → after ≡ out ++ codes_of (entering (head_of r) ++ code_words (addresses_of s) l.routines (head_of r) (far_jump (label_place labels)) r.code)
       → after ++ codes_of (more_words (k + 1)) ≡ target
   routine_pushed r labels out after target e f w a =
-      let here = entering (head_of r) ++ code_words (addresses_of s) l.routines (head_of r) (label_place labels) r.code in
+      let here = entering (head_of r) ++ code_words (addresses_of s) l.routines (head_of r) (far_jump (label_place labels)) r.code in
       let places : label_place labels ≡ label_at l.routines (entry_at l.routines k) r = fun_ext ((h.labels k labels f).places r e) in
       let same : routine_words (addresses l) l.routines (entry_at l.routines k) r ≡ here =
-      ap (λ x. entering (head_of r) ++ code_words x l.routines (head_of r) (label_at l.routines (entry_at l.routines k) r) r.code) (sym (same_addresses l s h))
-      ∙ ap (λ x. entering (head_of r) ++ code_words (addresses_of s) l.routines (head_of r) x r.code) (sym places) in
+      ap (λ x. entering (head_of r) ++ code_words x l.routines (head_of r) (far_jump (label_at l.routines (entry_at l.routines k) r)) r.code) (sym (same_addresses l s h))
+      ∙ ap (λ x. entering (head_of r) ++ code_words (addresses_of s) l.routines (head_of r) (far_jump x) r.code) (sym places) in
       let both : more_words k ≡ here ++ more_words (k + 1) =
       ap (routines_words (addresses l) l.routines (entry_at l.routines k)) (drop_at l.routines k r e)
       ∙ (ap (λ ops. ops ++ routines_words (addresses l) l.routines (entry_at l.routines k + 4 * routine_length l.routines r) (drop (suc k) l.routines)) same

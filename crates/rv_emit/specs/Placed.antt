@@ -8,7 +8,7 @@ use Rattle.rv_alloc.specs.Places.{number_at}
 use Rattle.rv_alloc.specs.declared.assigned.Assigned.{Assigned}
 use Rattle.rv_alloc.specs.Assigned.{placed_code}
 use Rattle.rv_layout.specs.Rooms.{head_in}
-use Rattle.rv_layout.specs.Lengths.{routine_length}
+use Rattle.rv_text.specs.Lengths.{routine_length}
 use Rattle.rv_alloc.specs.Renamed.{renamed_routine}
 use Rattle.rv_emit.specs.declared.frame.Frame.{Frame}
 

@@ -5,22 +5,20 @@ use Rattle.rv_image.specs.Picture.{Picture}
 use Rattle.rv_image.specs.Streams.{Folder}
 use Rattle.rv_image.specs.Run.{machine_run}
 use Rattle.rv_flat.specs.declared.linear.LinearRoutine.{LinearRoutine}
-use Rattle.rv_flat.specs.Parts.{HasItsLabels, TakesOnce}
+use Rattle.rv_flat.specs.Parts.{IsUnguarded}
 use Rattle.rv_alloc.specs.declared.assigned.Assigned.{Assigned}
 use Rattle.rv_alloc.specs.Assigned.{placed_code, assigned_meaning, assigned_size}
 use Rattle.rv_alloc.specs.Holds.{HoldsRoutine, IsSlotted, HasRoom}
 use Rattle.rv_alloc.specs.Keeps.{IsLawful}
-use Rattle.rv_layout.specs.Agrees.{RunAgrees}
+use Rattle.rv_text.specs.Agrees.{RunAgrees}
 use Rattle.rv_layout.specs.Ready.{IsSmall}
-use Rattle.rv_layout.specs.Text.{text_of, place_of_image}
+use Rattle.rv_text.specs.Text.{text_of, place_of_image}
 use Rattle.rv_emit.specs.declared.emitter.Emitted.{Emitted}
 
--- lawful code whose labels stand once, whose values that are taken at once differ, and whose values are each in a slot of its own, for which
--- there is room
+-- lawful code without guards, whose values are each in a slot of its own, for which there is room
 pub record IsReadyToEmit (a : Assigned) : Type 0 where
   pub lawful : IsLawful a
-  pub labels : All (λ (r : LinearRoutine). HasItsLabels r.code) a.linear.routines
-  pub taken_once : All TakesOnce a.linear.routines
+  pub unguarded : IsUnguarded a.linear
   pub places : AllZip HoldsRoutine a.linear.routines a.places
   pub slots : AllZip IsSlotted a.linear.routines a.places
   pub room : AllZip HasRoom a.linear.routines a.places

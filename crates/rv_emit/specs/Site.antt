@@ -3,12 +3,12 @@ use Rattle.std.specs.Prelude.{◌≡◌, ℕ, ◌+◌, ◌/◌, List, length, sl
 use Rattle.std.specs.HashMap.{get}
 use Rattle.std.specs.Option.{unwrap_or, is_some}
 use Rattle.rv_flat.specs.declared.linear.Instruction.{Instruction}
-use Rattle.rv_flat.specs.declared.linear.Instruction.TheVariants.{Plain, Branch, Within, Hand, Jump, Label, Back}
+use Rattle.rv_flat.specs.declared.linear.Instruction.TheVariants.{Plain, Guarded, Open, Branch, Within, Hand, Jump, Label, Back}
 use Rattle.rv_layout.specs.Words.{Addresses}
 use Rattle.rv_flat.specs.declared.linear.LinearRoutine.{LinearRoutine}
 use Rattle.rv_flat.specs.declared.linear.Linear.{Linear}
-use Rattle.rv_layout.specs.Lengths.{routines_length}
-use Rattle.rv_layout.specs.Text.{shared_at, entry_at, label_at, texts_at, globals_at}
+use Rattle.rv_text.specs.Lengths.{routines_length}
+use Rattle.rv_text.specs.Text.{shared_at, entry_at, label_at, texts_at, globals_at}
 use Rattle.rv_emit.specs.declared.site.Site.{Site}
 use Rattle.rv_emit.specs.declared.site.Labels.{Labels}
 
@@ -21,6 +21,8 @@ label_place l label = unwrap_or (get nat_eq l.places label) l.end
 -- whether a label stands there
 abbrev pub stands : Instruction → ℕ → Bool
 stands (Plain p) label = false
+stands (Guarded p handler) label = false
+stands (Open mark) label = false
 stands (Branch relation left right other) label = false
 stands (Within value range other) label = false
 stands (Hand to from) label = false

@@ -4,9 +4,9 @@ ghost use Rattle.std.specs.Prelude.{◌≡◌, ◌<◌, ◌+◌, ◌*◌, ◌++�
 ghost use Rattle.rv_isa.specs.declared.instr.Relation.TheVariants.{Less};
 ghost use Rattle.rv_runs.specs.Stands.{codes_of};
 ghost use Rattle.rv_alloc.specs.Renamed.{renamed, renamed_plain, renamed_service};
-ghost use Rattle.rv_layout.specs.Pieces.{long};
-ghost use Rattle.rv_layout.specs.Rooms.{load_value, store_value};
-ghost use Rattle.rv_layout.specs.Words.{load_each, load_kind as kind_of_load, store_kind as kind_of_store, service_number as number_of_service, asking, branching, within, plain_words, instruction_words};
+ghost use Rattle.rv_layout.specs.Pieces.{stopping, long, go_to, constant, address_word};
+ghost use Rattle.rv_layout.specs.Rooms.{cut as cut_of, load_value, store_value};
+ghost use Rattle.rv_layout.specs.Words.{load_each, load_kind as kind_of_load, store_kind as kind_of_store, service_number as number_of_service, asking, branching, within, plain_words, instruction_words, far_jump};
 ghost use Rattle.rv_layout.specs.Ready.{IsSmall, IsSmallPlain, IsSmallRange};
 ghost use Rattle.rv_emit.specs.Placed.{frame_head, number_in, routines_of};
 ghost use Rattle.rv_emit.specs.Site.{addresses_of, label_place};
@@ -116,7 +116,7 @@ impl Frame<'_> {
         right: u32,
         place: u32,
     ) -> Result<(), Memory>
-        ensures { OnOk result (out.new ≡ out.old ++ codes_of (branching (frame_head self.entry) (Instr.Branch relation 5 6 12) (number_in self.entry left) (number_in self.entry right) place)) }
+        ensures { OnOk result (out.new ≡ out.old ++ codes_of (branching (frame_head self.entry) relation (number_in self.entry left) (number_in self.entry right) (go_to place))) }
     {
         self.load(out, 5, left)?;
         self.load(out, 6, right)?;
@@ -137,7 +137,7 @@ impl Frame<'_> {
         range: &Range,
         place: u32,
     ) -> Result<(), Memory>
-        ensures words { OnOk result (out.new ≡ out.old ++ codes_of (within (frame_head self.entry) (number_in self.entry value) range.now place)) }
+        ensures words { OnOk result (out.new ≡ out.old ++ codes_of (within (frame_head self.entry) (number_in self.entry value) range.now (go_to place))) }
         ensures small { IsSmallRange range.now }
     {
         let relation = Relation::Less;
@@ -163,11 +163,37 @@ impl Frame<'_> {
 
 // Single operations.
 impl Frame<'_> {
+    fn push_constant_of(self, out: &mut Output, to: u32, word: u32) -> Result<(), Memory>
+        ensures { OnOk result (out.new ≡ out.old ++ codes_of (constant 5 word ++ store_value (frame_head self.entry) 5 (number_in self.entry to))) }
+    {
+        out.push_constant(5, word)?;
+        self.store(out, 5, to)
+    }
+
+    fn push_frame_of(self, out: &mut Output, to: u32, word: u64) -> Result<(), Memory>
+        ensures { OnOk result (out.new ≡ out.old ++ codes_of (address_word 5 2 (4 * cut_of word) ++ store_value (frame_head self.entry) 5 (number_in self.entry to))) }
+    {
+        out.push_address(5, 2, 4 * (cut(word) as u32))?;
+        self.store(out, 5, to)
+    }
+
     fn push_word_of(self, out: &mut Output, to: u32, word: u64) -> Result<(), Memory>
         ensures { OnOk result (out.new ≡ out.old ++ codes_of (long 5 word ++ store_value (frame_head self.entry) 5 (number_in self.entry to))) }
     {
         out.push_long(5, (word % 4294967296) as u32)?;
         self.store(out, 5, to)
+    }
+
+    fn push_global_of(self, out: &mut Output, site: &Site, to: u32, word: u32) -> Result<(), Memory>
+        ensures { OnOk result (out.new ≡ out.old ++ codes_of (long 5 (site.now.globals + 4 * word) ++ store_value (frame_head self.entry) 5 (number_in self.entry to))) }
+    {
+        self.push_word_of(out, to, u64::from(site.globals) + 4 * u64::from(word))
+    }
+
+    fn push_text_of(self, out: &mut Output, site: &Site, to: u32, byte: u32) -> Result<(), Memory>
+        ensures { OnOk result (out.new ≡ out.old ++ codes_of (long 5 (site.now.texts + byte) ++ store_value (frame_head self.entry) 5 (number_in self.entry to))) }
+    {
+        self.push_word_of(out, to, u64::from(site.texts) + u64::from(byte))
     }
 
     fn push_compute(
@@ -217,6 +243,15 @@ impl Frame<'_> {
         })
     }
 
+    // The exception whose number and line two values have.
+    fn push_throw(self, out: &mut Output, kind: u32, line: u32) -> Result<(), Memory>
+        ensures { OnOk result (out.new ≡ out.old ++ codes_of (load_value (frame_head self.entry) 10 (number_in self.entry kind) ++ (load_value (frame_head self.entry) 11 (number_in self.entry line) ++ stopping))) }
+    {
+        self.load(out, 10, kind)?;
+        self.load(out, 11, line)?;
+        out.push_ask(1)
+    }
+
     fn push_plain(
         self,
         out: &mut Output,
@@ -228,21 +263,11 @@ impl Frame<'_> {
         ensures small { IsSmallPlain (renamed_plain (number_in self.entry) plain.now) }
     {
         match plain {
-            Plain::Constant { to, word } => {
-                out.push_constant(5, *word)?;
-                self.store(out, 5, *to)
-            }
-            Plain::Global { to, word } => {
-                self.push_word_of(out, *to, u64::from(site.globals) + 4 * u64::from(*word))
-            }
+            Plain::Constant { to, word } => self.push_constant_of(out, *to, *word),
+            Plain::Global { to, word } => self.push_global_of(out, site, *to, *word),
             Plain::Heap { to } => self.store(out, 4, *to),
-            Plain::Frame { to, word } => {
-                out.push_address(5, 2, 4 * (cut(*word) as u32))?;
-                self.store(out, 5, *to)
-            }
-            Plain::Text { to, byte } => {
-                self.push_word_of(out, *to, u64::from(site.texts) + u64::from(*byte))
-            }
+            Plain::Frame { to, word } => self.push_frame_of(out, *to, *word),
+            Plain::Text { to, byte } => self.push_text_of(out, site, *to, *byte),
             Plain::Compute {
                 to,
                 op,
@@ -270,6 +295,7 @@ impl Frame<'_> {
                 )
             }
             Plain::Raise { kind, line } => out.push_raising(kind.number(), *line),
+            Plain::Throw { kind, line } => self.push_throw(out, *kind, *line),
             Plain::Take { to, words, line } => {
                 self.push_taking(out, SHARED_AT, *to, *words, *line)
             }
@@ -287,11 +313,13 @@ impl Frame<'_> {
         labels: &Labels,
         instruction: &Instruction,
     ) -> Result<(), Memory>
-        ensures words { OnOk result (out.new ≡ out.old ++ codes_of (instruction_words (addresses_of site.now) (routines_of assigned.now) (frame_head self.entry) (label_place labels.now) (renamed (number_in self.entry) instruction.now))) }
+        ensures words { OnOk result (out.new ≡ out.old ++ codes_of (instruction_words (addresses_of site.now) (routines_of assigned.now) (frame_head self.entry) (far_jump (label_place labels.now)) (renamed (number_in self.entry) instruction.now))) }
         ensures small { IsSmall (renamed (number_in self.entry) instruction.now) }
     {
         match instruction {
             Instruction::Plain(plain) => self.push_plain(out, assigned, site, plain),
+            Instruction::Guarded { plain, .. } => self.push_plain(out, assigned, site, plain),
+            Instruction::Open { .. } => Ok(()),
             Instruction::Branch {
                 relation,
                 left,

@@ -9,8 +9,8 @@ ghost use Rattle.rv_alloc.specs.Assigned.{placed_code};
 ghost use Rattle.rv_alloc.specs.Renamed.{renamed};
 ghost use Rattle.rv_layout.specs.Rooms.{room_bytes};
 ghost use Rattle.rv_layout.specs.Calling.{entering, entering_length};
-ghost use Rattle.rv_layout.specs.Words.{code_words};
-ghost use Rattle.rv_layout.specs.Text.{around, addresses, routines_at, routines_words, text_of, image_of, place_of_image};
+ghost use Rattle.rv_layout.specs.Words.{code_words, far_jump};
+ghost use Rattle.rv_text.specs.Text.{around, addresses, routines_at, routines_words, text_of, image_of, place_of_image};
 ghost use Rattle.rv_layout.specs.Ready.{IsSmall};
 ghost use Rattle.rv_emit.specs.Ready.{AllSmall, IsReadyToEmit, AgreesWith, picture_of};
 ghost use Rattle.rv_emit.specs.Placed.{frame_head, head_of_callee, number_in, routines_of};
@@ -22,8 +22,8 @@ use crate::site::{Labels, Site};
 use crate::survey::survey;
 use rv_alloc::Assigned;
 use rv_isa::Text;
-use rv_layout::{image_agrees, image_is_allowed, text_is_measured};
 use rv_pieces::Output;
+use rv_text::{image_agrees, image_is_allowed, text_is_measured};
 use std::alloc::Global;
 use tu_base::{Memory, TEXT_AT};
 
@@ -82,7 +82,7 @@ impl Frame<'_> {
         site: &Site,
         labels: &Labels,
     ) -> Result<(), Memory>
-        ensures words { OnOk result (out.new ≡ out.old ++ codes_of (entering (frame_head self.entry) ++ code_words (addresses_of site.now) (routines_of assigned.now) (frame_head self.entry) (label_place labels.now) (map (renamed (number_in self.entry)) self.entry.routine.now.code))) }
+        ensures words { OnOk result (out.new ≡ out.old ++ codes_of (entering (frame_head self.entry) ++ code_words (addresses_of site.now) (routines_of assigned.now) (frame_head self.entry) (far_jump (label_place labels.now)) (map (renamed (number_in self.entry)) self.entry.routine.now.code))) }
         ensures small { OnOk result (All IsSmall (map (renamed (number_in self.entry)) self.entry.routine.now.code)) }
     {
         self.push_entering(out)?;

@@ -2,8 +2,8 @@
 
 ghost use Rattle.std.specs.Prelude.{◌≡◌, ◌+◌, ◌*◌, ◌<◌, ◌≤◌, ℕ, IfOk};
 ghost use Rattle.rv_layout.specs.Calling.{entering_length as length_of_entering};
-ghost use Rattle.rv_layout.specs.Lengths.{routine_length};
-ghost use Rattle.rv_layout.specs.Text.{label_at};
+ghost use Rattle.rv_text.specs.Lengths.{routine_length};
+ghost use Rattle.rv_text.specs.Text.{label_at};
 ghost use Rattle.rv_emit.specs.Placed.{frame_head, placed_routine, routines_of};
 ghost use Rattle.rv_emit.specs.Site.{label_place};
 

@@ -1,6 +1,6 @@
 ghost use Rattle.rv_emit.specs.Ready.{TextIsBounded};
 
-use rv_layout::text_is_measured;
+use rv_text::text_is_measured;
 
 /// The text of assigned code with a routine has at most as many words as the code's size, and one
 /// more for each four bytes of the texts, rounded up.

@@ -7,7 +7,7 @@ ghost use Rattle.rv_layout.specs.Pieces.{constant_length as length_of_constant, 
 ghost use Rattle.rv_layout.specs.Rooms.{head_at, slot as slot_of};
 ghost use Rattle.rv_layout.specs.Moves.{are_near as all_near, is_among as is_one_of, is_mixed as any_mixed, handing_length as length_of_handing};
 ghost use Rattle.rv_layout.specs.Calling.{passing_length as length_of_passing, each_length as length_of_each, calling_length as length_of_calling, returning_length as length_of_returning};
-ghost use Rattle.rv_layout.specs.Lengths.{load_length, plain_length as length_of_plain, instruction_length as length_of_instruction};
+ghost use Rattle.rv_text.specs.Lengths.{load_length, plain_length as length_of_plain, instruction_length as length_of_instruction};
 ghost use Rattle.rv_emit.specs.Placed.{frame_head, head_of_callee, number_in, numbers_in, routine_in, routines_of, capped};
 
 use crate::frame::{Frame, cut, reach};
@@ -219,6 +219,7 @@ impl Frame<'_> {
                 self.calling_length(callee, arguments.as_slice(), to.as_slice())
             }
             Plain::Raise { .. } => 5,
+            Plain::Throw { kind, line } => self.value_length(*kind) + self.value_length(*line) + 2,
             Plain::Take { to, words, .. } => self.value_length(*words) + 7 + self.value_length(*to),
             Plain::Give { words } => self.value_length(*words) + 6,
         }
@@ -229,6 +230,8 @@ impl Frame<'_> {
     {
         match instruction {
             Instruction::Plain(plain) => self.plain_length(assigned, plain),
+            Instruction::Guarded { plain, .. } => self.plain_length(assigned, plain),
+            Instruction::Open { .. } => 0,
             Instruction::Branch { left, right, .. } => {
                 self.value_length(*left) + self.value_length(*right) + 3
             }

@@ -2,15 +2,15 @@
 
 ghost use Rattle.std.specs.Prelude.{◌≡◌, ◌≤◌, ◌+◌, ◌/◌, length, slice_get};
 ghost use Rattle.rv_alloc.specs.Assigned.{placed_code, assigned_size};
-ghost use Rattle.rv_layout.specs.Lengths.{routine_length};
-ghost use Rattle.rv_layout.specs.Text.{text_of};
+ghost use Rattle.rv_text.specs.Lengths.{routine_length};
+ghost use Rattle.rv_text.specs.Text.{text_of};
 ghost use Rattle.rv_emit.specs.Placed.{placed_routine, routines_of, length_in, capped};
 ghost use Rattle.rv_emit.specs.Site.{word_count};
 
 use crate::frame::Frame;
 use crate::lengths::frame_of;
 use rv_alloc::Assigned;
-use rv_layout::text_is_measured;
+use rv_text::text_is_measured;
 
 impl Frame<'_> {
     fn length(self, assigned: &Assigned) -> u64

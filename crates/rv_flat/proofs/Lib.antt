@@ -10,5 +10,7 @@ mod Parts
 mod Labels
 mod Words
 mod Takers
+mod Marks
 mod Clauses
 mod Rows
+mod GuardRows

@@ -16,24 +16,24 @@ use Rattle.ir_form.specs.declared.unit.Unit.{Unit as RegionUnit}
 use Rattle.ir_form.specs.State.{Ended, Stopped, Going}
 use Rattle.ir_form.specs.Units.{Meant}
 use Rattle.rv_flat.specs.declared.linear.Instruction.TheVariants.{Plain, Branch, Within, Hand, Jump, Label}
-use Rattle.rv_flat.specs.Flat.{code_list, flat_unit}
+use Rattle.rv_flat.specs.Flat.{nothing_around, code_list, flat_unit}
 use Rattle.rv_flat.specs.Units.{linear_run, linear_meaning}
 
-abbrev region : List Op → List ℕ → Region
+abbrev pub region : List Op → List ℕ → Region
 region ops results = record { parameters = []; ops = ops; results = results }
 
-abbrev main : List Op → Routine
+abbrev pub main : List Op → Routine
 main ops = record { body = region ops []; results = 0; room = 64; words = 0; depth = 0 }
 
-abbrev unit : List Routine → RegionUnit
+abbrev pub unit : List Routine → RegionUnit
 unit routines = record { globals = 1; main = 0; routines = routines; texts = [] }
 
 -- what its linear code means without input and files
-abbrev means : RegionUnit → ℕ → ℕ → Meant
+abbrev pub means : RegionUnit → ℕ → ℕ → Meant
 means u t s = linear_meaning (flat_unit u) (record { globals_at = 65536; texts_at = 65536 }) [] Closed t s
 
 -- puts a value as a byte
-abbrev shows : ℕ → List Op
+abbrev pub shows : ℕ → List Op
 shows x = Simple (Global 90 0) ∷ Simple (Store Byte 90 x) ∷ Simple (Constant 91 1) ∷ Simple (Ask 92 (PutConsole 90 91)) ∷ []
 
 -- the sum of 1 to 4, by a loop of the program that is left in its fifth round
@@ -48,7 +48,7 @@ summing =
     ∷ []
 
 -- an If without values hands none over
-summing_code : code_list [] 0 summing ≡
+summing_code : code_list nothing_around 0 summing ≡
     Plain (Constant 0 0) ∷ Plain (Constant 1 1) ∷ Plain (Constant 2 5)
     ∷ Hand (3 ∷ 4 ∷ []) (0 ∷ 1 ∷ []) ∷ Label 0 true
     ∷ Branch Less 4 2 2 ∷ Jump 3
@@ -105,7 +105,7 @@ choosing =
     ∷ record { ranges = record { low = pos 3; high = negsuc 0 } ∷ record { low = pos 4; high = pos 4 } ∷ []; region = region [] (2 ∷ []) } ∷ []) (region [] (3 ∷ [])) (4 ∷ [])
     ∷ []
 
-choosing_code : code_list [] 0 choosing ≡
+choosing_code : code_list nothing_around 0 choosing ≡
     Within 0 (record { low = negsuc 1; high = pos 3 }) 1 ∷ Within 0 (record { low = pos 3; high = negsuc 0 }) 3 ∷ Within 0 (record { low = pos 4; high = pos 4 }) 3
     ∷ Hand (4 ∷ []) (3 ∷ [])
     ∷ Jump 0 ∷ Label 1 false ∷ Hand (4 ∷ []) (1 ∷ [])

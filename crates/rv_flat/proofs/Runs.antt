@@ -1,23 +1,24 @@
 -- The linear code does what the region code does: what is asked of the end of a run holds of the linear run wherever the region run comes to it.
-use Rattle.std.proofs.Common.{◌≡◌, ◌≢◌, ℕ, zero, suc, ◌+◌, ◌*◌, ◌<◌, ◌≤◌, List, [], ◌∷◌, ◌++◌, length, Option, Some, None, Bool, true, false, refl, sym, ap, ◌∙◌, subst, arith, append_assoc}
+use Rattle.std.proofs.Common.{◌≡◌, ◌≢◌, ℕ, zero, suc, ◌+◌, ◌*◌, ◌<◌, ◌≤◌, List, [], ◌∷◌, ◌++◌, length, Option, Some, None, Bool, true, false, refl, sym, ap, ◌∙◌, subst, arith, append_assoc, ◌-◌}
 use Rattle.std.specs.Prelude.{if◌then◌else◌, slice_get}
 use Rattle.rv_isa.specs.Arithmetic.{holds, signed_of}
 use Rattle.rv_isa.specs.declared.instr.Relation.{Relation}
 use Rattle.ir_form.specs.declared.plain.Plain.{Plain as PlainOp}
-use Rattle.ir_form.specs.declared.op.Op.{Op, Plain as Simple, If', Case', Loop', Leave, Row_of-Op, end_of-Op, more_of-Op, Row_of-Arm, end_of-Arm, more_of-Arm}
+use Rattle.ir_form.specs.declared.op.Op.{Op, Plain as Simple, If', Case', Loop', Guard', Leave, Row_of-Op, end_of-Op, more_of-Op, Row_of-Arm, end_of-Arm, more_of-Arm}
 use Rattle.ir_form.specs.declared.op.Exit.TheVariants.{Routine as the_routine, Loop as the_loop}
 use Rattle.ir_form.specs.declared.op.Range.{Range}
 use Rattle.ir_form.specs.Place.{Setting}
-use Rattle.ir_form.specs.State.{Env, State, Stuck, How, Next, Left, Ends, Throws, Over, Run, next, on_how, on_run, needs, chosen, words_of, bound, turn_from, other_from, begins}
-use Rattle.ir_form.specs.Cost.{value_price, if_price, case_price, range_price, round_price, leave_price}
-use Rattle.ir_form.specs.Plain.{Calls, act}
-use Rattle.ir_form.specs.Meaning.{takes_words, hands, gives, is_in, is_in_any, compared, picks, Cycle, after_round, after_run, rounds, looped, run, run_all, run_arms}
+use Rattle.ir_form.specs.State.{Env, State, Stuck, How, Next, Left, Ends, Throws, Over, Run, next, on_how, on_run, needs, chosen, words_of, bound, turn_from, other_from, begins, binds}
+use Rattle.ir_form.specs.Cost.{value_price, if_price, case_price, range_price, round_price, leave_price, guard_price}
+use Rattle.ir_form.specs.Plain.{Calls, act, without_array}
+use Rattle.ir_form.specs.Meaning.{takes_words, hands, gives, is_in, is_in_any, compared, picks, Cycle, after_round, after_run, rounds, looped, run, run_all, run_arms, takes_up, caught, opens}
 use Rattle.ir_form.proofs.Spends.{Spends, CallsSpend, binds_spend, begins_spend, act_spends, hands_spend, ops_spend}
 use Rattle.rv_flat.specs.declared.linear.Instruction.{Instruction}
-use Rattle.rv_flat.specs.declared.linear.Instruction.TheVariants.{Plain, Branch, Jump, Label}
+use Rattle.rv_flat.specs.declared.linear.Instruction.TheVariants.{Branch, Jump, Label, Open}
 use Rattle.rv_flat.specs.declared.linear.Target.{Target}
-use Rattle.rv_flat.specs.Linear.{Config, At, Seek, Done, config, config_of, wants, one, sweep, finish}
-use Rattle.rv_flat.specs.Flat.{labels, labels_all, labels_arms, arm_count, hand_code, leave_code, if_code, loop_code, range_tests, tests, code_of, code_all, code_arms}
+use Rattle.rv_flat.specs.declared.linear.Handler.{Handler}
+use Rattle.rv_flat.specs.Linear.{Config, At, Seek, Done, config, config_of, wants, one, sweep, finish, seek_how, seek_run, handled, open_price}
+use Rattle.rv_flat.specs.Flat.{labels, labels_all, labels_arms, arm_count, hand_code, leave_code, if_code, loop_code, range_tests, tests, code_of, code_all, code_arms, Around, in_loop, in_guard, plain_code, guard_code}
 use Rattle.rv_flat.proofs.Close.{IsStep, Close, CallsClose, takes_words_close, hands_close, begins_close, act_close}
 use Rattle.rv_flat.proofs.Sweeps.{sweep_append, sweep_done, Lacks, Outside, label_other, label_same, lacks_append, lacks_label, lacks_hand_code, lacks_jump, lacks_range_tests, lacks_tests, lacks_code, lacks_all, lacks_arms}
 
@@ -25,21 +26,57 @@ use Rattle.rv_flat.proofs.Sweeps.{sweep_append, sweep_done, Lacks, Outside, labe
 abbrev pub left : State → ℕ
 left st = st.turns + st.others
 
--- on the way to the label behind a loop, which is left with these words
-abbrev pub seek_how : ℕ → How → State → ℕ → Config
-seek_how l Next st m = Seek false l st m
-seek_how l (Left k ws) st m = Done (Left k ws) st m
-seek_how l (Ends ws) st m = Done (Ends ws) st m
-seek_how l (Throws kind line) st m = Done (Throws kind line) st m
-seek_how l (Over v) st m = Done (Over v) st m
-
 abbrev pub leaving : Option Target → List ℕ → State → ℕ → Config
 leaving None ws st m = Done (Ends ws) st m
 leaving (Some t) ws st m = let r = takes_words t.to ws st m in seek_how t.label r.how r.state r.cost
 
--- each loop around is left to a label below n
-pub record Below (around : List Target) (n : ℕ) : Type 0 where
-  pub below : (k : ℕ) (t : Target) → slice_get around k ≡ Some t → t.label < n
+-- a label that is gone to from within what lies around
+pub data IsLabel (around : Around) (l : ℕ) : Type 0 where
+  OfLoop : (k : ℕ) (t : Target) → slice_get around.loops k ≡ Some t → t.label ≡ l → IsLabel around l
+  OfHandler : (h : Handler) → around.handler ≡ Some h → h.label ≡ l → IsLabel around l
+
+-- each is below n
+pub record Below (around : Around) (n : ℕ) : Type 0 where
+  pub below : (l : ℕ) → IsLabel around l → l < n
+
+-- operations that raise nothing
+abbrev pub IsQuiet : How → Type 0
+IsQuiet Next = Unit {0}
+IsQuiet (Left k ws) = ⊥
+IsQuiet (Ends ws) = Unit {0}
+IsQuiet (Throws kind line) = ⊥
+IsQuiet (Over v) = Unit {0}
+
+binds_quiet : (to ws : List ℕ) (st : State) (m : ℕ) → IsQuiet (binds to ws st m).how
+binds_quiet to ws st m = at (bound to ws st.env)
+  where
+    at : (o : Option Env) → IsQuiet (needs o st m (λ env. next (record st { env = env }) m)).how
+    at None = tt
+    at (Some env) = tt
+
+words_quiet : (to ws : List ℕ) (st : State) (m : ℕ) → IsQuiet (takes_words to ws st m).how
+words_quiet to [] st m = tt
+words_quiet to (w ∷ ws) st m = binds_quiet to (w ∷ ws) st m
+
+hands_quiet : (to from : List ℕ) (st : State) (m : ℕ) → IsQuiet (hands to from st m).how
+hands_quiet to from st m = at (words_of st.env from)
+  where
+    at : (o : Option (List ℕ)) → IsQuiet (needs o st m (λ ws. takes_words to ws st (m + value_price * length from))).how
+    at None = tt
+    at (Some ws) = words_quiet to ws st _
+
+turn_quiet : (t : ℕ) (st : State) (m : ℕ) → IsQuiet (turn_from t st m).how
+turn_quiet zero st m = tt
+turn_quiet (suc t) st m = tt
+
+other_quiet : (s : ℕ) (st : State) (m : ℕ) → IsQuiet (other_from s st m).how
+other_quiet zero st m = tt
+other_quiet (suc s) st m = tt
+
+begins_quiet : (marked again : Bool) (st : State) (m : ℕ) → IsQuiet (begins marked again st m).how
+begins_quiet true again st m = turn_quiet st.turns st m
+begins_quiet false true st m = other_quiet st.others st m
+begins_quiet false false st m = tt
 
 -- what is left falls
 turn_uses : (t : ℕ) (st : State) (m : ℕ) → t ≡ st.turns → (turn_from t st m).how ≡ Next → left (turn_from t st m).state < left st
@@ -69,15 +106,20 @@ module _ (Q : Run → Type 0) (g : Setting) (cl cr : Calls) (code : List Instruc
   pub record Well (d : ℕ) (rest : List Instruction) (c : ℕ → Config) (lft most : ℕ) : Type 0 where
     pub by : (j m : ℕ) → lft < j → m + d ≤ most → Q (finish g cl code j (sweep g cl rest (c m)))
 
+  -- an exception ends well, which leaves the code or is taken
+  abbrev pub Caught : ℕ → Option Handler → List Instruction → (kind line : ℕ) → State → ℕ → Type 0
+  Caught d None rest kind line st n = (m : ℕ) → m + d ≤ n → Q (record { how = Throws kind line; state = st; cost = m })
+  Caught d (Some h) rest kind line st n = Well d rest (λ m. seek_run h.label (takes_up g h.mark h.to kind line st (m + guard_price))) (left st) n
+
   -- a run that goes on from here ends well
-  abbrev pub AfterHow : ℕ → List Target → List Instruction → How → State → ℕ → Type 0
+  abbrev pub AfterHow : ℕ → Around → List Instruction → How → State → ℕ → Type 0
   AfterHow d around rest Next st n = Well d rest (At st) (left st) n
-  AfterHow d around rest (Left k ws) st n = Well d rest (leaving (slice_get around k) ws st) (left st) n
+  AfterHow d around rest (Left k ws) st n = Well d rest (leaving (slice_get around.loops k) ws st) (left st) n
   AfterHow d around rest (Ends ws) st n = (m : ℕ) → m + d ≤ n → Q (record { how = Ends ws; state = st; cost = m })
-  AfterHow d around rest (Throws kind line) st n = (m : ℕ) → m + d ≤ n → Q (record { how = Throws kind line; state = st; cost = m })
+  AfterHow d around rest (Throws kind line) st n = Caught d around.handler rest kind line st n
   AfterHow d around rest (Over v) st n = (m : ℕ) → m + d ≤ n → Q (record { how = Over v; state = st; cost = m })
 
-  abbrev pub After : ℕ → List Target → List Instruction → Run → Type 0
+  abbrev pub After : ℕ → Around → List Instruction → Run → Type 0
   After d around rest r = AfterHow d around rest r.how r.state r.cost
 
   -- from this code on a run to the label goes as from the other
@@ -85,8 +127,8 @@ module _ (Q : Run → Type 0) (g : Setting) (cl cr : Calls) (code : List Instruc
     pub by : (again : Bool) (st : State) (m : ℕ) → sweep g cl a (Seek again l st m) ≡ sweep g cl b (Seek again l st m)
 
   -- and a run that leaves a loop around
-  pub record Passes (around : List Target) (a b : List Instruction) : Type 0 where
-    pub by : (k : ℕ) (t : Target) → slice_get around k ≡ Some t → Skips t.label a b
+  pub record Passes (around : Around) (a b : List Instruction) : Type 0 where
+    pub by : (l : ℕ) → IsLabel around l → Skips l a b
 
   -- from here a run comes there, at a cost of at most e
   pub record Joins (e : ℕ) (a b : List Instruction) : Type 0 where
@@ -119,52 +161,80 @@ module _ (Q : Run → Type 0) (g : Setting) (cl cr : Calls) (code : List Instruc
   done j rest how st m q = subst (λ c. Q (finish g cl code j c)) (sym (sweep_done g cl rest how st m)) (finished j how st m q)
 
   -- a step, and what follows it
-  step_how : (how : How) (d d' j : ℕ) (around : List Target) (rest rest' : List Instruction) (st : State) (m n : ℕ) (go : State → ℕ → Run) → IsStep how → m + d' ≤ n → (how ≡ Next → left st < j) → d ≤ d' → After d around rest (on_how how st n go) → (how ≡ Next → After d around rest (go st n) → Well d' rest' (At st) (left st) n) → Q (finish g cl code j (sweep g cl rest' (config how st m)))
+  step_how : (how : How) (d d' j : ℕ) (around : Around) (rest rest' : List Instruction) (st : State) (m n : ℕ) (go : State → ℕ → Run) → IsQuiet how → m + d' ≤ n → (how ≡ Next → left st < j) → d ≤ d' → After d around rest (on_how how st n go) → (how ≡ Next → After d around rest (go st n) → Well d' rest' (At st) (left st) n) → Q (finish g cl code j (sweep g cl rest' (config how st m)))
   step_how Next d d' j around rest rest' st m n go i le lt l a h = (h refl a).by j m (lt refl) le
   step_how (Left k ws) d d' j around rest rest' st m n go i le lt l a h = absurd i
   step_how (Ends ws) d d' j around rest rest' st m n go i le lt l a h = done j rest' (Ends ws) st m (a m (omega arith))
-  step_how (Throws kind line) d d' j around rest rest' st m n go i le lt l a h = done j rest' (Throws kind line) st m (a m (omega arith))
+  step_how (Throws kind line) d d' j around rest rest' st m n go i le lt l a h = absurd i
   step_how (Over v) d d' j around rest rest' st m n go i le lt l a h = done j rest' (Over v) st m (a m (omega arith))
 
-  step_well : (d d' j : ℕ) (around : List Target) (rest rest' : List Instruction) (s t : Run) (go : State → ℕ → Run) → Close d' s t → (t.how ≡ Next → left t.state < j) → d ≤ d' → After d around rest (on_run t go) → (t.how ≡ Next → After d around rest (go t.state t.cost) → Well d' rest' (At t.state) (left t.state) t.cost) → Q (finish g cl code j (sweep g cl rest' (config_of s)))
-  step_well d d' j around rest rest' s t go c lt le a h =
+  step_well : (d d' j : ℕ) (around : Around) (rest rest' : List Instruction) (s t : Run) (go : State → ℕ → Run) → Close d' s t → IsQuiet t.how → (t.how ≡ Next → left t.state < j) → d ≤ d' → After d around rest (on_run t go) → (t.how ≡ Next → After d around rest (go t.state t.cost) → Well d' rest' (At t.state) (left t.state) t.cost) → Q (finish g cl code j (sweep g cl rest' (config_of s)))
+  step_well d d' j around rest rest' s t go c q lt le a h =
       subst (λ x. Q (finish g cl code j (sweep g cl rest' (config x s.state s.cost)))) (sym c.how)
       (subst (λ y. Q (finish g cl code j (sweep g cl rest' (config t.how y s.cost)))) (sym c.state)
-      (step_how t.how d d' j around rest rest' t.state s.cost t.cost go c.step c.cost lt le a h))
+      (step_how t.how d d' j around rest rest' t.state s.cost t.cost go q c.cost lt le a h))
 
   -- a last step
-  last_how : (how : How) (d j : ℕ) (around : List Target) (rest : List Instruction) (st : State) (m n : ℕ) → IsStep how → m + d ≤ n → left st < j → AfterHow d around rest how st n → Q (finish g cl code j (sweep g cl rest (config how st m)))
+  last_how : (how : How) (d j : ℕ) (around : Around) (rest : List Instruction) (st : State) (m n : ℕ) → IsQuiet how → m + d ≤ n → left st < j → AfterHow d around rest how st n → Q (finish g cl code j (sweep g cl rest (config how st m)))
   last_how Next d j around rest st m n i le lt a = a.by j m lt le
   last_how (Left k ws) d j around rest st m n i le lt a = absurd i
   last_how (Ends ws) d j around rest st m n i le lt a = done j rest (Ends ws) st m (a m le)
-  last_how (Throws kind line) d j around rest st m n i le lt a = done j rest (Throws kind line) st m (a m le)
+  last_how (Throws kind line) d j around rest st m n i le lt a = absurd i
   last_how (Over v) d j around rest st m n i le lt a = done j rest (Over v) st m (a m le)
 
-  last_well : (d j : ℕ) (around : List Target) (rest : List Instruction) (s t : Run) → Close d s t → left t.state < j → After d around rest t → Q (finish g cl code j (sweep g cl rest (config_of s)))
-  last_well d j around rest s t c lt a =
+  last_well : (d j : ℕ) (around : Around) (rest : List Instruction) (s t : Run) → Close d s t → IsQuiet t.how → left t.state < j → After d around rest t → Q (finish g cl code j (sweep g cl rest (config_of s)))
+  last_well d j around rest s t c q lt a =
       subst (λ x. Q (finish g cl code j (sweep g cl rest (config x s.state s.cost)))) (sym c.how)
       (subst (λ y. Q (finish g cl code j (sweep g cl rest (config t.how y s.cost)))) (sym c.state)
-      (last_how t.how d j around rest t.state s.cost t.cost c.step c.cost lt a))
+      (last_how t.how d j around rest t.state s.cost t.cost q c.cost lt a))
 
-  plain_well : CallsClose cl cr → CallsSpend cr → (p : PlainOp) (d : ℕ) (around : List Target) (rest : List Instruction) (st : State) (n : ℕ) → After d around rest (act g cr p st n) → Well d (Plain p ∷ rest) (At st) (left st) n
-  plain_well ch sh p d around rest st n h = record {
-    by = λ j m lt le. last_well d j around rest (act g cl p st m) (act g cr p st n) (act_close g cl cr ch p st m n d le) (let f = spent st n _ (act_spends g cr sh p st n n (omega arith)) in omega arith) h;
+  -- an operation, with what takes its exception
+  abbrev acted : Option Handler → How → State → ℕ → Config
+  acted None how st m = config how st m
+  acted (Some h) how st m = handled g h how st m
+
+  acted_how : (how : How) (o : Option Handler) (d j : ℕ) (around : Around) (rest : List Instruction) (st : State) (m n : ℕ) → around.handler ≡ o → IsStep how → m + d ≤ n → left st < j → AfterHow d around rest how st n → Q (finish g cl code j (sweep g cl rest (acted o how st m)))
+  acted_how Next None d j around rest st m n e i le lt a = a.by j m lt le
+  acted_how Next (Some h) d j around rest st m n e i le lt a = a.by j m lt le
+  acted_how (Left k ws) o d j around rest st m n e i le lt a = absurd i
+  acted_how (Ends ws) None d j around rest st m n e i le lt a = done j rest (Ends ws) st m (a m le)
+  acted_how (Ends ws) (Some h) d j around rest st m n e i le lt a = done j rest (Ends ws) st m (a m le)
+  acted_how (Throws kind line) None d j around rest st m n e i le lt a = done j rest (Throws kind line) st m (subst (λ o. Caught d o rest kind line st n) e a m le)
+  acted_how (Throws kind line) (Some h) d j around rest st m n e i le lt a = (subst (λ o. Caught d o rest kind line st n) e a).by j m lt le
+  acted_how (Over v) None d j around rest st m n e i le lt a = done j rest (Over v) st m (a m le)
+  acted_how (Over v) (Some h) d j around rest st m n e i le lt a = done j rest (Over v) st m (a m le)
+
+  acted_well : (o : Option Handler) (d j : ℕ) (around : Around) (rest : List Instruction) (s t : Run) → around.handler ≡ o → Close d s t → left t.state < j → After d around rest t → Q (finish g cl code j (sweep g cl rest (acted o s.how s.state s.cost)))
+  acted_well o d j around rest s t e c lt a =
+      subst (λ x. Q (finish g cl code j (sweep g cl rest (acted o x s.state s.cost)))) (sym c.how)
+      (subst (λ y. Q (finish g cl code j (sweep g cl rest (acted o t.how y s.cost)))) (sym c.state)
+      (acted_how t.how o d j around rest t.state s.cost t.cost e c.step c.cost lt a))
+
+  plain_in : CallsClose cl cr → CallsSpend cr → (o : Option Handler) (p : PlainOp) (d : ℕ) (around : Around) (rest : List Instruction) (st : State) (n : ℕ) → around.handler ≡ o → After d around rest (act g cr p st n) → Well d (plain_code o p ∷ rest) (At st) (left st) n
+  plain_in ch sh None p d around rest st n e h = record {
+    by = λ j m lt le. acted_well None d j around rest (act g cl p st m) (act g cr p st n) e (act_close g cl cr ch p st m n d le) (let f = spent st n _ (act_spends g cr sh p st n n (omega arith)) in omega arith) h;
+  }
+  plain_in ch sh (Some x) p d around rest st n e h = record {
+    by = λ j m lt le. acted_well (Some x) d j around rest (act g cl p st m) (act g cr p st n) e (act_close g cl cr ch p st m n d le) (let f = spent st n _ (act_spends g cr sh p st n n (omega arith)) in omega arith) h;
   }
 
+  plain_well : CallsClose cl cr → CallsSpend cr → (p : PlainOp) (d : ℕ) (around : Around) (rest : List Instruction) (st : State) (n : ℕ) → After d around rest (act g cr p st n) → Well d (plain_code around.handler p ∷ rest) (At st) (left st) n
+  plain_well ch sh p d around rest st n h = plain_in ch sh around.handler p d around rest st n refl h
+
   -- values are handed on, and what follows
-  hand_well : (to from : List ℕ) (d d' : ℕ) (around : List Target) (rest rest' : List Instruction) (st : State) (n : ℕ) (go : State → ℕ → Run) → d ≤ d' → After d around rest (on_run (hands to from st n) go) → ((su : State) (k : ℕ) → left su ≤ left st → After d around rest (go su k) → Well d' rest' (At su) (left su) k) → Well (d' + 1) (hand_code to from ++ rest') (At st) (left st) n
+  hand_well : (to from : List ℕ) (d d' : ℕ) (around : Around) (rest rest' : List Instruction) (st : State) (n : ℕ) (go : State → ℕ → Run) → d ≤ d' → After d around rest (on_run (hands to from st n) go) → ((su : State) (k : ℕ) → left su ≤ left st → After d around rest (go su k) → Well d' rest' (At su) (left su) k) → Well (d' + 1) (hand_code to from ++ rest') (At st) (left st) n
   hand_well to [] d d' around rest rest' st n go le a h = record { by = λ j m lt l. (h st (n + 0) (omega arith) a).by j m lt (omega arith) }
   hand_well to (x ∷ xs) d d' around rest rest' st n go le a h = record {
     by = λ j m lt l. let fall = hands_fall to (x ∷ xs) st n in
-        step_well d d' j around rest rest' (hands to (x ∷ xs) st (m + 1)) (hands to (x ∷ xs) st n) go (hands_close to (x ∷ xs) st (m + 1) n d' (omega arith)) (λ e. omega arith) le a (λ e. h _ _ fall);
+        step_well d d' j around rest rest' (hands to (x ∷ xs) st (m + 1)) (hands to (x ∷ xs) st n) go (hands_close to (x ∷ xs) st (m + 1) n d' (omega arith)) (hands_quiet to (x ∷ xs) st n) (λ e. omega arith) le a (λ e. h _ _ fall);
   }
 
   -- values are handed on at the end of a region
-  hand_last : (to from : List ℕ) (d : ℕ) (around : List Target) (rest : List Instruction) (st : State) (n : ℕ) → After d around rest (hands to from st n) → Well (d + 1) (hand_code to from ++ rest) (At st) (left st) n
+  hand_last : (to from : List ℕ) (d : ℕ) (around : Around) (rest : List Instruction) (st : State) (n : ℕ) → After d around rest (hands to from st n) → Well (d + 1) (hand_code to from ++ rest) (At st) (left st) n
   hand_last to [] d around rest st n a = record { by = λ j m lt l. a.by j m lt (omega arith) }
   hand_last to (x ∷ xs) d around rest st n a = record {
     by = λ j m lt l. let fall = hands_fall to (x ∷ xs) st n in
-        last_well d j around rest (hands to (x ∷ xs) st (m + 1)) (hands to (x ∷ xs) st n) (hands_close to (x ∷ xs) st (m + 1) n d (omega arith)) (omega arith) a;
+        last_well d j around rest (hands to (x ∷ xs) st (m + 1)) (hands to (x ∷ xs) st n) (hands_close to (x ∷ xs) st (m + 1) n d (omega arith)) (hands_quiet to (x ∷ xs) st n) (omega arith) a;
   }
 
   -- a run that leaves a loop passes code that lacks the label
@@ -179,49 +249,61 @@ module _ (Q : Run → Type 0) (g : Setting) (cl cr : Calls) (code : List Instruc
   leaving_passes None ws st m a b h = sweep_done g cl a _ st m ∙ sym (sweep_done g cl b _ st m)
   leaving_passes (Some t) ws st m a b h = let r = takes_words t.to ws st m in seek_passes r.how t.label a b r.state r.cost (h t refl)
 
-  left_passes : (d d' k : ℕ) (around : List Target) (ws : List ℕ) (st : State) (n : ℕ) (a b : List Instruction) → d' ≤ d → Passes around a b → Well d' b (leaving (slice_get around k) ws st) (left st) n → Well d a (leaving (slice_get around k) ws st) (left st) n
-  left_passes d d' k around ws st n a b le p w = record { by = λ j m lt l. subst (λ c. Q (finish g cl code j c)) (sym (leaving_passes (slice_get around k) ws st m a b (p.by k))) (w.by j m lt (omega arith)) }
+  left_passes : (d d' k : ℕ) (around : Around) (ws : List ℕ) (st : State) (n : ℕ) (a b : List Instruction) → d' ≤ d → Passes around a b → Well d' b (leaving (slice_get around.loops k) ws st) (left st) n → Well d a (leaving (slice_get around.loops k) ws st) (left st) n
+  left_passes d d' k around ws st n a b le p w = record { by = λ j m lt l. subst (λ c. Q (finish g cl code j c)) (sym (leaving_passes (slice_get around.loops k) ws st m a b (λ t e. p.by t.label (OfLoop k t e refl)))) (w.by j m lt (omega arith)) }
+
+  -- and one that is on its way to its handler
+  caught_passes : (d d' : ℕ) (o : Option Handler) (kind line : ℕ) (st : State) (n : ℕ) (a b : List Instruction) → d' ≤ d → ((h : Handler) → o ≡ Some h → Skips h.label a b) → Caught d' o b kind line st n → Caught d o a kind line st n
+  caught_passes d d' None kind line st n a b le p c = λ m l. c m (omega arith)
+  caught_passes d d' (Some h) kind line st n a b le p c = record {
+    by = λ j m lt l. let r = takes_up g h.mark h.to kind line st (m + guard_price) in
+        subst (λ z. Q (finish g cl code j z)) (sym (seek_passes r.how h.label a b r.state r.cost (p h refl))) (c.by j m lt (omega arith));
+  }
+
+  throws_passes : (d d' : ℕ) (around : Around) (kind line : ℕ) (st : State) (n : ℕ) (a b : List Instruction) → d' ≤ d → Passes around a b → Caught d' around.handler b kind line st n → Caught d around.handler a kind line st n
+  throws_passes d d' around kind line st n a b le p c = caught_passes d d' around.handler kind line st n a b le (λ h e. p.by h.label (OfHandler h e refl)) c
 
   -- what follows an operation is the code of the others
-  pub flow_how : (how : How) (d : ℕ) (around : List Target) (a rest : List Instruction) (st : State) (n : ℕ) (go : State → ℕ → Run) → Passes around a rest → After d around rest (on_how how st n go) → ((su : State) (k : ℕ) → After d around rest (go su k) → Well d a (At su) (left su) k) → AfterHow d around a how st n
+  pub flow_how : (how : How) (d : ℕ) (around : Around) (a rest : List Instruction) (st : State) (n : ℕ) (go : State → ℕ → Run) → Passes around a rest → After d around rest (on_how how st n go) → ((su : State) (k : ℕ) → After d around rest (go su k) → Well d a (At su) (left su) k) → AfterHow d around a how st n
   flow_how Next d around a rest st n go p h k = k st n h
   flow_how (Left i ws) d around a rest st n go p h k = left_passes d d i around ws st n a rest (omega arith) p h
   flow_how (Ends ws) d around a rest st n go p h k = h
-  flow_how (Throws kind line) d around a rest st n go p h k = h
+  flow_how (Throws kind line) d around a rest st n go p h k = throws_passes d d around kind line st n a rest (omega arith) p h
   flow_how (Over v) d around a rest st n go p h k = h
 
   -- the end of a region comes behind what it is in
-  join_how : (how : How) (d e : ℕ) (around : List Target) (a rest : List Instruction) (st : State) (n : ℕ) → Passes around a rest → Joins e a rest → AfterHow d around rest how st n → AfterHow (d + e) around a how st n
+  join_how : (how : How) (d e : ℕ) (around : Around) (a rest : List Instruction) (st : State) (n : ℕ) → Passes around a rest → Joins e a rest → AfterHow d around rest how st n → AfterHow (d + e) around a how st n
   join_how Next d e around a rest st n p c h = record { by = λ j m lt le. let i = c.by st m in let small = i.1 in subst (λ z. Q (finish g cl code j z)) (sym i.2) (h.by j (m + i.0) lt (omega arith)) }
   join_how (Left k ws) d e around a rest st n p c h = left_passes (d + e) d k around ws st n a rest (omega arith) p h
   join_how (Ends ws) d e around a rest st n p c h = λ m le. h m (omega arith)
-  join_how (Throws kind line) d e around a rest st n p c h = λ m le. h m (omega arith)
+  join_how (Throws kind line) d e around a rest st n p c h = throws_passes (d + e) d around kind line st n a rest (omega arith) p h
   join_how (Over v) d e around a rest st n p c h = λ m le. h m (omega arith)
 
-  joined : (d e : ℕ) (around : List Target) (a rest : List Instruction) (r : Run) → Passes around a rest → Joins e a rest → After d around rest r → After (d + e) around a r
+  joined : (d e : ℕ) (around : Around) (a rest : List Instruction) (r : Run) → Passes around a rest → Joins e a rest → After d around rest r → After (d + e) around a r
   joined d e around a rest r p c h = join_how r.how d e around a rest r.state r.cost p c h
 
   -- the end of a region hands values on
-  give_how : (how : How) (d : ℕ) (around : List Target) (to from : List ℕ) (rest : List Instruction) (st : State) (n : ℕ) → After d around rest (on_how how st n (hands to from)) → AfterHow (d + 1) around (hand_code to from ++ rest) how st n
+  give_how : (how : How) (d : ℕ) (around : Around) (to from : List ℕ) (rest : List Instruction) (st : State) (n : ℕ) → After d around rest (on_how how st n (hands to from)) → AfterHow (d + 1) around (hand_code to from ++ rest) how st n
   give_how Next d around to from rest st n h = hand_last to from d around rest st n h
   give_how (Left k ws) d around to from rest st n h =
-      left_passes (d + 1) d k around ws st n (hand_code to from ++ rest) rest (omega arith) (record { by = λ i t e. skips_code t.label (hand_code to from) rest rest (lacks_hand_code t.label to from) (skips_none t.label rest) }) h
+      left_passes (d + 1) d k around ws st n (hand_code to from ++ rest) rest (omega arith) (record { by = λ lb e. skips_code lb (hand_code to from) rest rest (lacks_hand_code lb to from) (skips_none lb rest) }) h
   give_how (Ends ws) d around to from rest st n h = λ m le. h m (omega arith)
-  give_how (Throws kind line) d around to from rest st n h = λ m le. h m (omega arith)
+  give_how (Throws kind line) d around to from rest st n h =
+      throws_passes (d + 1) d around kind line st n (hand_code to from ++ rest) rest (omega arith) (record { by = λ lb e. skips_code lb (hand_code to from) rest rest (lacks_hand_code lb to from) (skips_none lb rest) }) h
   give_how (Over v) d around to from rest st n h = λ m le. h m (omega arith)
 
   -- a body and its code, for whatever follows it
-  abbrev pub CodeWell : List Target → List Instruction → List Instruction → (State → ℕ → Run) → Type 0
+  abbrev pub CodeWell : Around → List Instruction → List Instruction → (State → ℕ → Run) → Type 0
   CodeWell around x rest body = (d : ℕ) (st : State) (n : ℕ) → After d around rest (body st n) → Well d (x ++ rest) (At st) (left st) n
 
   -- a region, with what it hands on
-  region_well : (around : List Target) (x rest : List Instruction) (to results : List ℕ) (body : State → ℕ → Run) → CodeWell around x (hand_code to results ++ rest) body → (d : ℕ) (st : State) (n : ℕ) → After d around rest (gives body to results st n) → Well (d + 1) ((x ++ hand_code to results) ++ rest) (At st) (left st) n
+  region_well : (around : Around) (x rest : List Instruction) (to results : List ℕ) (body : State → ℕ → Run) → CodeWell around x (hand_code to results ++ rest) body → (d : ℕ) (st : State) (n : ℕ) → After d around rest (gives body to results st n) → Well (d + 1) ((x ++ hand_code to results) ++ rest) (At st) (left st) n
   region_well around x rest to results body w d st n h =
       let r = body st n in
       subst (λ z. Well (d + 1) z (At st) (left st) n) (sym (append_assoc x (hand_code to results) rest)) (w (d + 1) st n (give_how r.how d around to results rest r.state r.cost h))
 
   -- leaving a loop, or the routine
-  back_well : (values : List ℕ) (o : Option (List ℕ)) (d : ℕ) (rest : List Instruction) (st : State) (n j m : ℕ) → m + d ≤ n → (around : List Target) → After d around rest (needs o st (n + leave_price) (λ ws. record { how = Ends ws; state = st; cost = n + leave_price + value_price * length values })) → Q (finish g cl code j (sweep g cl rest (wants o st (m + 7) (λ ws. Done (Ends ws) st (m + 7 + 8 * length values)))))
+  back_well : (values : List ℕ) (o : Option (List ℕ)) (d : ℕ) (rest : List Instruction) (st : State) (n j m : ℕ) → m + d ≤ n → (around : Around) → After d around rest (needs o st (n + leave_price) (λ ws. record { how = Ends ws; state = st; cost = n + leave_price + value_price * length values })) → Q (finish g cl code j (sweep g cl rest (wants o st (m + 7) (λ ws. Done (Ends ws) st (m + 7 + 8 * length values)))))
   back_well values None d rest st n j m le around h = done j rest (Over Stuck) st (m + 7) (h (m + 7) (omega arith))
   back_well values (Some ws) d rest st n j m le around h = done j rest (Ends ws) st (m + 7 + 8 * length values) (h (m + 7 + 8 * length values) (omega arith))
 
@@ -230,7 +312,7 @@ module _ (Q : Run → Type 0) (g : Setting) (cl cr : Calls) (code : List Instruc
   LeftFrom d rest o None st c e = (m : ℕ) → m + d ≤ c → Q (record { how = Over Stuck; state = st; cost = m })
   LeftFrom d rest o (Some ws) st c e = Well d rest (leaving o ws st) (left st) e
 
-  left_from : (d : ℕ) (around : List Target) (rest : List Instruction) (k : ℕ) (w : Option (List ℕ)) (st : State) (c e : ℕ) → After d around rest (needs w st c (λ ws. record { how = Left k ws; state = st; cost = e })) → LeftFrom d rest (slice_get around k) w st c e
+  left_from : (d : ℕ) (around : Around) (rest : List Instruction) (k : ℕ) (w : Option (List ℕ)) (st : State) (c e : ℕ) → After d around rest (needs w st c (λ ws. record { how = Left k ws; state = st; cost = e })) → LeftFrom d rest (slice_get around.loops k) w st c e
   left_from d around rest k None st c e h = h
   left_from d around rest k (Some ws) st c e h = h
 
@@ -258,7 +340,7 @@ module _ (Q : Run → Type 0) (g : Setting) (cl cr : Calls) (code : List Instruc
   leave_well (Some t) (x ∷ xs) d rest st n h = record { by = λ j m lt le. jump_well (words_of st.env (x ∷ xs)) t (length (x ∷ xs)) d rest st n j m lt le h }
 
   -- a choice between two regions, whose labels are n and the next one
-  module _ (n : ℕ) (x y rest : List Instruction) (d : ℕ) (around : List Target) (st : State) (k : ℕ) (first second : State → ℕ → Run) where
+  module _ (n : ℕ) (x y rest : List Instruction) (d : ℕ) (around : Around) (st : State) (k : ℕ) (first second : State → ℕ → Run) where
     abbrev behind_first : List Instruction
     behind_first = Jump (n + 1) ∷ Label n false ∷ (y ++ Label (n + 1) false ∷ rest)
 
@@ -274,7 +356,7 @@ module _ (Q : Run → Type 0) (g : Setting) (cl cr : Calls) (code : List Instruc
     joins_end = record { by = λ su m. (1, omega arith, refl) }
 
     passes_end : Choice → Passes around (Label (n + 1) false ∷ rest) rest
-    passes_end c = record { by = λ i t e. let low : t.label < n = c.below.below i t e in skips_label t.label (n + 1) false rest rest (λ q. absurd (omega arith)) (skips_none t.label rest) }
+    passes_end c = record { by = λ lb e. let low : lb < n = c.below.below lb e in skips_label lb (n + 1) false rest rest (λ q. absurd (omega arith)) (skips_none lb rest) }
 
     joins_first : Choice → Joins 3 behind_first rest
     joins_first c = record {
@@ -289,8 +371,8 @@ module _ (Q : Run → Type 0) (g : Setting) (cl cr : Calls) (code : List Instruc
 
     passes_first : Choice → Passes around behind_first rest
     passes_first c = record {
-      by = λ i t e. let low : t.label < n = c.below.below i t e in
-          skips_jump t.label (n + 1) _ _ (skips_label t.label n false _ _ (λ q. absurd (omega arith)) (skips_code t.label y _ _ (c.low t.label low) (skips_label t.label (n + 1) false rest rest (λ q. absurd (omega arith)) (skips_none t.label rest))));
+      by = λ lb e. let low : lb < n = c.below.below lb e in
+          skips_jump lb (n + 1) _ _ (skips_label lb n false _ _ (λ q. absurd (omega arith)) (skips_code lb y _ _ (c.low lb low) (skips_label lb (n + 1) false rest rest (λ q. absurd (omega arith)) (skips_none lb rest))));
     }
 
     choice_well : Choice → (b : Bool) → After d around rest (chosen b first second st (k + if_price)) → (j m : ℕ) → left st < j → m + d ≤ k → Q (finish g cl code j (sweep g cl (x ++ behind_first) (if b then At st (m + 9) else Seek false n st (m + 9))))
@@ -308,15 +390,15 @@ module _ (Q : Run → Type 0) (g : Setting) (cl cr : Calls) (code : List Instruc
     branch_left c test (Some v) p h j m lt le = branch_right c (test v) p h j m lt le
 
   -- a loop, whose first label is n
-  module _ (y : Cycle) (start : List ℕ) (n : ℕ) (b : List Instruction) (around : List Target) (rest : List Instruction) (d : ℕ) (body : State → ℕ → Run) where
+  module _ (y : Cycle) (start : List ℕ) (n : ℕ) (b : List Instruction) (around : Around) (rest : List Instruction) (d : ℕ) (body : State → ℕ → Run) where
     abbrev tail : List Instruction
     tail = hand_code y.parameters y.results ++ Jump n ∷ Label (n + 1) false ∷ rest
 
     abbrev all : List Instruction
     all = hand_code y.parameters start ++ Label n y.marked ∷ (b ++ tail)
 
-    abbrev inside : List Target
-    inside = record { label = n + 1; to = y.to } ∷ around
+    abbrev inside : Around
+    inside = in_loop (record { label = n + 1; to = y.to }) around
 
     -- what is known of the body and of where the loop stands
     record Stands : Type 0 where
@@ -327,13 +409,13 @@ module _ (Q : Run → Type 0) (g : Setting) (cl cr : Calls) (code : List Instruc
       lacks : Lacks n rest
 
     -- the loop is left: to the label behind it
-    exit_how : (how : How) (lft j : ℕ) (st : State) (m k : ℕ) → IsStep how → m + (d + 2) ≤ k → left st < j → AfterHow d around rest how st k → Q (finish g cl code j (sweep g cl tail (seek_how (n + 1) how st m)))
+    exit_how : (how : How) (lft j : ℕ) (st : State) (m k : ℕ) → IsQuiet how → m + (d + 2) ≤ k → left st < j → AfterHow d around rest how st k → Q (finish g cl code j (sweep g cl tail (seek_how (n + 1) how st m)))
     exit_how Next lft j st m k i le lt h =
         subst (λ z. Q (finish g cl code j z)) (sym ((skips_code (n + 1) (hand_code y.parameters y.results) _ _ (lacks_hand_code (n + 1) y.parameters y.results) (skips_none (n + 1) _)).by false st m ∙ ap (sweep g cl rest) (label_same (n + 1) false false st m)))
         (h.by j (m + 1) lt (omega arith))
     exit_how (Left i ws) lft j st m k q le lt h = absurd q
     exit_how (Ends ws) lft j st m k i le lt h = done j tail (Ends ws) st m (h m (omega arith))
-    exit_how (Throws kind line) lft j st m k i le lt h = done j tail (Throws kind line) st m (h m (omega arith))
+    exit_how (Throws kind line) lft j st m k i le lt h = absurd i
     exit_how (Over v) lft j st m k i le lt h = done j tail (Over v) st m (h m (omega arith))
 
     exit_well : (ws : List ℕ) (st : State) (k j m : ℕ) → left st < j → m + (d + 2) ≤ k → After d around rest (takes_words y.to ws st k) → Q (finish g cl code j (sweep g cl tail (leaving (Some (record { label = n + 1; to = y.to })) ws st m)))
@@ -342,7 +424,7 @@ module _ (Q : Run → Type 0) (g : Setting) (cl cr : Calls) (code : List Instruc
         let fall : left t.state ≤ left st = words_fall y.to ws st k in
         subst (λ x. Q (finish g cl code j (sweep g cl tail (seek_how (n + 1) x s.state s.cost)))) (sym c.how)
         (subst (λ z. Q (finish g cl code j (sweep g cl tail (seek_how (n + 1) t.how z s.cost)))) (sym c.state)
-        (exit_how t.how (left st) j t.state s.cost t.cost c.step c.cost (omega arith) h))
+        (exit_how t.how (left st) j t.state s.cost t.cost (words_quiet y.to ws st k) c.cost (omega arith) h))
       where
         words_fall : (to ws : List ℕ) (st : State) (k : ℕ) → left (takes_words to ws st k).state ≤ left st
         words_fall to [] st k = omega arith
@@ -352,6 +434,12 @@ module _ (Q : Run → Type 0) (g : Setting) (cl cr : Calls) (code : List Instruc
     abbrev Again : ℕ → Type 0
     Again fuel = (st : State) (k : ℕ) → left st < fuel → After d around rest (rounds y body fuel true st k) → (j m : ℕ) → left st < j → m + (d + 3) ≤ k → Q (finish g cl code j (Seek false n st m))
 
+    tail_passes : Stands → Passes around tail rest
+    tail_passes s = record {
+      by = λ lb e. let low : lb < n = s.below.below lb e in
+          skips_code lb (hand_code y.parameters y.results) _ _ (lacks_hand_code lb y.parameters y.results) (skips_jump lb n _ _ (skips_label lb (n + 1) false rest rest (λ e. absurd (omega arith)) (skips_none lb rest)));
+    }
+
     -- the end of a round
     round_how : Stands → (fuel : ℕ) → Again fuel → (how : How) (st : State) (k : ℕ) → left st < fuel → After d around rest (after_round y (rounds y body fuel true) how st k) → AfterHow (d + 2) inside tail how st k
     round_how s fuel again Next st k lt h =
@@ -359,13 +447,9 @@ module _ (Q : Run → Type 0) (g : Setting) (cl cr : Calls) (code : List Instruc
           by = λ j q lj lq. subst (λ z. Q (finish g cl code j z)) (sym (ap (sweep g cl rest) (label_other n (n + 1) false false su (q + 2) (λ e. absurd (omega arith))) ∙ s.lacks.passes g cl false su (q + 2))) (again su p (omega arith) x j (q + 2) lj (omega arith));
         }) in record { by = λ j m lj le. w.by j m lj (omega arith) }
     round_how s fuel again (Left zero ws) st k lt h = record { by = λ j m lj le. exit_well ws st k j m lj le h }
-    round_how s fuel again (Left (suc i) ws) st k lt h =
-        left_passes (d + 2) d i around ws st k tail rest (omega arith) (record {
-          by = λ q t e. let low : t.label < n = s.below.below q t e in
-              skips_code t.label (hand_code y.parameters y.results) _ _ (lacks_hand_code t.label y.parameters y.results) (skips_jump t.label n _ _ (skips_label t.label (n + 1) false rest rest (λ e. absurd (omega arith)) (skips_none t.label rest)));
-        }) h
+    round_how s fuel again (Left (suc i) ws) st k lt h = left_passes (d + 2) d i around ws st k tail rest (omega arith) (tail_passes s) h
     round_how s fuel again (Ends ws) st k lt h = λ m le. h m (omega arith)
-    round_how s fuel again (Throws kind line) st k lt h = λ m le. h m (omega arith)
+    round_how s fuel again (Throws kind line) st k lt h = throws_passes (d + 2) d around kind line st k tail rest (omega arith) (tail_passes s) h
     round_how s fuel again (Over v) st k lt h = λ m le. h m (omega arith)
 
     round_well : Stands → (fuel : ℕ) → Again fuel → (st : State) (k : ℕ) → left st < fuel → After d around rest (after_run y (rounds y body fuel true) (body st k)) → Well (d + 2) (b ++ tail) (At st) (left st) k
@@ -379,14 +463,14 @@ module _ (Q : Run → Type 0) (g : Setting) (cl cr : Calls) (code : List Instruc
     top_well s (suc fuel) st k lt h (suc j) m lj le =
         let t = begins y.marked true st k in
         subst (λ z. Q (finish g cl code j z)) (sym (s.finds st m ∙ (skips_code n (hand_code y.parameters start) _ _ (lacks_hand_code n y.parameters start) (skips_none n _)).by true st m ∙ ap (sweep g cl (b ++ tail)) (label_same n y.marked true st m)))
-        (step_well d (d + 2) j around rest (b ++ tail) (begins y.marked true st (m + 1)) t _ (begins_close y.marked true st (m + 1) k (d + 2) (omega arith)) (λ e. let used = begins_use y.marked st k e in omega arith) (omega arith) h
+        (step_well d (d + 2) j around rest (b ++ tail) (begins y.marked true st (m + 1)) t _ (begins_close y.marked true st (m + 1) k (d + 2) (omega arith)) (begins_quiet y.marked true st k) (λ e. let used = begins_use y.marked st k e in omega arith) (omega arith) h
         (λ e a. let used = begins_use y.marked st k e in round_well s fuel (top_well s fuel) t.state t.cost (omega arith) a))
 
     loop_well : Stands → (st : State) (k : ℕ) → After d around rest (looped y start body st k) → Well d all (At st) (left st) k
     loop_well s st k h =
         let w = hand_well y.parameters start d (d + 3) around rest (Label n y.marked ∷ (b ++ tail)) st (k + round_price) _ (omega arith) h (λ su p l x. record {
           by = λ i q li lq. let t = begins y.marked false su p in let fall : left t.state ≤ left su = first_falls y.marked su p in
-              step_well d (d + 2) i around rest (b ++ tail) (begins y.marked false su (q + 1)) t _ (begins_close y.marked false su (q + 1) p (d + 2) (omega arith)) (λ e. omega arith) (omega arith) x
+              step_well d (d + 2) i around rest (b ++ tail) (begins y.marked false su (q + 1)) t _ (begins_close y.marked false su (q + 1) p (d + 2) (omega arith)) (begins_quiet y.marked false su p) (λ e. omega arith) (omega arith) x
               (λ e a. round_well s (suc (left su)) (top_well s (suc (left su))) t.state t.cost (omega arith) a);
         }) in record { by = λ j m lj le. w.by j m lj (omega arith) }
       where
@@ -416,7 +500,7 @@ module _ (Q : Run → Type 0) (g : Setting) (cl cr : Calls) (code : List Instruc
           h ∙ ap (λ z. sweep g cl rest (if is_in_any (signed_of w) rs then Seek false n st z else At st z)) more
 
   -- an arm with ranges: its label is come to, or what follows the tests
-  module _ (value n : ℕ) (r : Range) (rs : List Range) (more rest' rest : List Instruction) (d : ℕ) (around : List Target) (st : State) (first second : State → ℕ → Run) where
+  module _ (value n : ℕ) (r : Range) (rs : List Range) (more rest' rest : List Instruction) (d : ℕ) (around : Around) (st : State) (first second : State → ℕ → Run) where
     record Arm : Type 0 where
       hit : (m k : ℕ) → m + d + 5 ≤ k → After d around rest (first st k) → (j : ℕ) → left st < j → Q (finish g cl code j (sweep g cl (more ++ rest') (Seek false n st m)))
       miss : (k : ℕ) → After d around rest (second st k) → Well (d + 5) (more ++ rest') (At st) (left st) k
@@ -438,7 +522,7 @@ module _ (Q : Run → Type 0) (g : Setting) (cl cr : Calls) (code : List Instruc
     arm_well a k h = subst (λ z. Well (d + 5) z (At st) (left st) k) (sym (append_assoc (range_tests value n (r ∷ rs)) more rest')) (record { by = λ j m lt le. arm_tested a (st.env value) refl k h j m lt le })
 
   -- from the end of an arm, or of the others, a run comes behind the Case
-  joins_arms : {i : _} (arms : Row_of-Arm i) (around : List Target) (to : List ℕ) (end n m : ℕ) (rest : List Instruction) → end < n → end < m → Joins 3 (code_arms around to end n m arms ++ Label end false ∷ rest) rest
+  joins_arms : {i : _} (arms : Row_of-Arm i) (around : Around) (to : List ℕ) (end n m : ℕ) (rest : List Instruction) → end < n → end < m → Joins 3 (code_arms around to end n m arms ++ Label end false ∷ rest) rest
   joins_arms end_of-Arm around to end n m rest a b = record { by = λ st c. (1, omega arith, ap (sweep g cl rest) (label_at end st c)) }
     where
       label_at : (l : ℕ) (st : State) (c : ℕ) → At st (c + 1) ≡ At st (c + 1)
@@ -452,11 +536,11 @@ module _ (Q : Run → Type 0) (g : Setting) (cl cr : Calls) (code : List Instruc
       }
 
   -- a run that leaves a loop passes the arms
-  passes_arms : {i : _} (arms : Row_of-Arm i) (around : List Target) (to : List ℕ) (end n m : ℕ) (rest : List Instruction) → Below around end → end < n → end < m → Passes around (code_arms around to end n m arms ++ Label end false ∷ rest) rest
+  passes_arms : {i : _} (arms : Row_of-Arm i) (around : Around) (to : List ℕ) (end n m : ℕ) (rest : List Instruction) → Below around end → end < n → end < m → Passes around (code_arms around to end n m arms ++ Label end false ∷ rest) rest
   passes_arms arms around to end n m rest be a b = record {
-    by = λ i t e. let low : t.label < end = be.below i t e in
-        skips_code t.label (code_arms around to end n m arms) _ _ (lacks_arms around to end n m t.label arms (record { differs = λ x c u v. absurd (omega arith) }) (record { differs = λ x c u v. absurd (omega arith) }))
-        (skips_label t.label end false rest rest (λ q. absurd (omega arith)) (skips_none t.label rest));
+    by = λ lb e. let low : lb < end = be.below lb e in
+        skips_code lb (code_arms around to end n m arms) _ _ (lacks_arms around to end n m lb arms (record { differs = λ x c u v. absurd (omega arith) }) (record { differs = λ x c u v. absurd (omega arith) }))
+        (skips_label lb end false rest rest (λ q. absurd (omega arith)) (skips_none lb rest));
   }
 
   pub outside_below : (l n k : ℕ) → l < n → Outside l n k
@@ -465,18 +549,26 @@ module _ (Q : Run → Type 0) (g : Setting) (cl cr : Calls) (code : List Instruc
   pub outside_above : (l n k : ℕ) → n + k ≤ l → Outside l n k
   outside_above l n k le = record { differs = λ x a b e. absurd (omega arith) }
 
-  pub below_more : (around : List Target) (n k : ℕ) → n ≤ k → Below around n → Below around k
-  below_more around n k le h = record { below = λ i t e. let b = h.below i t e in omega arith }
+  pub below_more : (around : Around) (n k : ℕ) → n ≤ k → Below around n → Below around k
+  below_more around n k le h = record { below = λ lb e. let b = h.below lb e in omega arith }
 
-  below_loop : (around : List Target) (n : ℕ) (to : List ℕ) → Below around n → Below (record { label = n + 1; to = to } ∷ around) (n + 2)
+  below_loop : (around : Around) (n : ℕ) (to : List ℕ) → Below around n → Below (in_loop (record { label = n + 1; to = to }) around) (n + 2)
   below_loop around n to h = record { below = low }
     where
-      low : (k : ℕ) (t : Target) → slice_get (record { label = n + 1; to = to } ∷ around) k ≡ Some t → t.label < n + 2
-      low zero t e = let same : record { label = n + 1; to = to } ≡ t = cc in subst (λ (u : Target). u.label < n + 2) same (omega arith)
-      low (suc k) t e = let b = h.below k t e in omega arith
+      low : (l : ℕ) → IsLabel (in_loop (record { label = n + 1; to = to }) around) l → l < n + 2
+      low l (OfLoop zero t e q) = let same : n + 1 ≡ t.label = ap (λ (o : Option Target). elim o [ None ↦ 0 | Some u ↦ u.label ]) e in omega arith
+      low l (OfLoop (suc k) t e q) = let b = h.below l (OfLoop k t e q) in omega arith
+      low l (OfHandler x e q) = let b = h.below l (OfHandler x e q) in omega arith
+
+  below_guard : (around : Around) (n mark : ℕ) (to : List ℕ) → Below around n → Below (in_guard (record { label = n; mark = mark; to = to }) around) (n + 2)
+  below_guard around n mark to h = record { below = low }
+    where
+      low : (l : ℕ) → IsLabel (in_guard (record { label = n; mark = mark; to = to }) around) l → l < n + 2
+      low l (OfLoop k t e q) = let b = h.below l (OfLoop k t e q) in omega arith
+      low l (OfHandler x e q) = let same : n ≡ x.label = ap (λ (o : Option Handler). elim o [ None ↦ 0 | Some u ↦ u.label ]) e in omega arith
 
   -- a region, whose code is well before whatever lacks its labels
-  region_of : (around : List Target) (n k : ℕ) (x a : List Instruction) (to results : List ℕ) (body : State → ℕ → Run) → ((rest : List Instruction) → Here n k (x ++ rest) → Beyond n k rest → CodeWell around x rest body)
+  region_of : (around : Around) (n k : ℕ) (x a : List Instruction) (to results : List ℕ) (body : State → ℕ → Run) → ((rest : List Instruction) → Here n k (x ++ rest) → Beyond n k rest → CodeWell around x rest body)
       → Here n k ((x ++ hand_code to results) ++ a) → Beyond n k a → (d : ℕ) (st : State) (m : ℕ) → After d around a (gives body to results st m) → Well (d + 1) ((x ++ hand_code to results) ++ a) (At st) (left st) m
   region_of around n k x a to results body w he bo d st m h =
       region_well around x a to results body
@@ -496,8 +588,61 @@ module _ (Q : Run → Type 0) (g : Setting) (cl cr : Calls) (code : List Instruc
   case_split : (t x a : List Instruction) (n : ℕ) (rest : List Instruction) → (t ++ (x ++ (a ++ Label n false ∷ []))) ++ rest ≡ t ++ (x ++ (a ++ Label n false ∷ rest))
   case_split t x a n rest = append_assoc t (x ++ (a ++ Label n false ∷ [])) rest ∙ ap (λ z. t ++ z) (append_assoc x (a ++ Label n false ∷ []) rest ∙ ap (λ z. x ++ z) (append_assoc a (Label n false ∷ []) rest))
 
+  guard_split : (mark n : ℕ) (x y rest : List Instruction) → guard_code mark n x y ++ rest ≡ Open mark ∷ (x ++ Jump (n + 1) ∷ Label n false ∷ (y ++ Label (n + 1) false ∷ rest))
+  guard_split mark n x y rest =
+      ap (λ z. Open mark ∷ z) (append_assoc x (Jump (n + 1) ∷ Label n false ∷ (y ++ Label (n + 1) false ∷ [])) rest
+      ∙ ap (λ z. x ++ Jump (n + 1) ∷ Label n false ∷ z) (append_assoc y (Label (n + 1) false ∷ []) rest))
+
+  -- a guard, whose handler's label is n
+  module _ (n mark : ℕ) (to : List ℕ) (y rest : List Instruction) (d : ℕ) (around : Around) (second : State → ℕ → Run) (be : Below around n) (low : (l : ℕ) → l < n → Lacks l y) (last_lacks : Lacks (n + 1) y)
+      (second_well : (st : State) (k : ℕ) → After (d + 1) around (Label (n + 1) false ∷ rest) (second st k) → Well (d + 1 + 1) (y ++ Label (n + 1) false ∷ rest) (At st) (left st) k) where
+    abbrev after_body : List Instruction
+    after_body = Jump (n + 1) ∷ Label n false ∷ (y ++ Label (n + 1) false ∷ rest)
+
+    abbrev guarding : Around
+    guarding = in_guard (record { label = n; mark = mark; to = to }) around
+
+    body_passes : Passes around after_body rest
+    body_passes = record {
+      by = λ lb e. let b : lb < n = be.below lb e in
+          skips_jump lb (n + 1) _ _ (skips_label lb n false _ _ (λ q. absurd (omega arith)) (skips_code lb y _ _ (low lb b) (skips_label lb (n + 1) false rest rest (λ q. absurd (omega arith)) (skips_none lb rest))));
+    }
+
+    body_joins : (su : State) (m : ℕ) → sweep g cl after_body (At su m) ≡ sweep g cl rest (At su (m + 3))
+    body_joins su m =
+        (skips_label (n + 1) n false _ _ (λ q. absurd (omega arith)) (skips_code (n + 1) y _ _ last_lacks (skips_none (n + 1) _))).by false su (m + 2)
+        ∙ ap (sweep g cl rest) (label_same (n + 1) false false su (m + 2))
+        ∙ ap (λ z. sweep g cl rest (At su z)) (omega arith)
+
+    end_passes : Passes around (Label (n + 1) false ∷ rest) rest
+    end_passes = record { by = λ lb e. let b : lb < n = be.below lb e in skips_label lb (n + 1) false rest rest (λ q. absurd (omega arith)) (skips_none lb rest) }
+
+    end_joins : Joins 1 (Label (n + 1) false ∷ rest) rest
+    end_joins = record { by = λ su m. (1, omega arith, refl) }
+
+    -- the handler begins, if its values take the exception
+    lands_bound : (o : Option Env) (sv : State) (c j m : ℕ) → After d around rest (on_run (needs o sv (c + guard_price) (λ env. next (record sv { env = env }) (c + guard_price))) second) → left sv < j → m + (d + 3) ≤ c →
+        Q (finish g cl code j (sweep g cl after_body (seek_run n (needs o sv (m + guard_price) (λ env. next (record sv { env = env }) (m + guard_price))))))
+    lands_bound None sv c j m h lt le = done j after_body (Over Stuck) sv (m + guard_price) (h (m + guard_price) (omega arith))
+    lands_bound (Some env) sv c j m h lt le =
+        let sw : State = record sv { env = env } in
+        let w = second_well sw (c + guard_price) (joined d 1 around (Label (n + 1) false ∷ rest) rest (second sw (c + guard_price)) end_passes end_joins h) in
+        subst (λ z. Q (finish g cl code j z)) (sym (ap (sweep g cl (y ++ Label (n + 1) false ∷ rest)) (label_same n false false sw (m + guard_price)))) (w.by j (m + guard_price + 1) lt (omega arith))
+
+    lands : (o : Option ℕ) (kind line : ℕ) (su : State) (c j m : ℕ) → After d around rest (on_run (needs o su (c + guard_price) (λ taken. binds to (kind ∷ line ∷ []) (without_array g (su.taken - taken) su) (c + guard_price))) second) → left su < j → m + (d + 3) ≤ c →
+        Q (finish g cl code j (sweep g cl after_body (seek_run n (needs o su (m + guard_price) (λ taken. binds to (kind ∷ line ∷ []) (without_array g (su.taken - taken) su) (m + guard_price))))))
+    lands None kind line su c j m h lt le = done j after_body (Over Stuck) su (m + guard_price) (h (m + guard_price) (omega arith))
+    lands (Some taken) kind line su c j m h lt le = lands_bound (bound to (kind ∷ line ∷ []) su.env) (without_array g (su.taken - taken) su) c j m h lt le
+
+    guard_how : (how : How) (su : State) (c : ℕ) → After d around rest (caught g mark to second how su c) → AfterHow (d + 3) guarding after_body how su c
+    guard_how Next su c h = record { by = λ j m lt le. subst (λ z. Q (finish g cl code j z)) (sym (body_joins su m)) (h.by j (m + 3) lt (omega arith)) }
+    guard_how (Left k ws) su c h = left_passes (d + 3) d k around ws su c after_body rest (omega arith) body_passes h
+    guard_how (Ends ws) su c h = λ m le. h m (omega arith)
+    guard_how (Throws kind line) su c h = record { by = λ j m lt le. lands (su.marks mark) kind line su c j m h lt le }
+    guard_how (Over v) su c h = λ m le. h m (omega arith)
+
   -- where the arms of a Case stand: behind the others and the arms before, with their labels and those of their code lacked there
-  record Placed (around : List Target) (end n c m k : ℕ) (mid arms rest : List Instruction) : Type 0 where
+  record Placed (around : Around) (end n c m k : ℕ) (mid arms rest : List Instruction) : Type 0 where
     below : Below around end
     order : end < n
     apart : n + c ≤ m
@@ -508,7 +653,7 @@ module _ (Q : Run → Type 0) (g : Setting) (cl cr : Calls) (code : List Instruc
 
   module _ (ch : CallsClose cl cr) (sh : CallsSpend cr) where
     mutual
-      pub op_well : (op : Op) (around : List Target) (n : ℕ) (rest : List Instruction) → Below around n → Here n (labels op) (code_of around n op ++ rest) → Beyond n (labels op) rest → CodeWell around (code_of around n op) rest (run g cr op)
+      pub op_well : (op : Op) (around : Around) (n : ℕ) (rest : List Instruction) → Below around n → Here n (labels op) (code_of around n op ++ rest) → Beyond n (labels op) rest → CodeWell around (code_of around n op) rest (run g cr op)
       op_well (Simple p) around n rest be he bo d st k h = plain_well ch sh p d around rest st k h
       op_well (If' relation a b p q ops results u v others others_results to) around n rest be he bo d st k h =
           let f = n + 2 + labels_all ops in
@@ -569,7 +714,7 @@ module _ (Q : Run → Type 0) (g : Setting) (cl cr : Calls) (code : List Instruc
           subst (λ z. Well d z (At st) (left st) k) (sym split) (record { by = λ j m lt le. w.by j m lt (omega arith) })
       op_well (Loop' marked start parameters p ops results to) around n rest be he bo d st k h =
           let y : Cycle = record { marked = marked; parameters = parameters; results = results; to = to } in
-          let inner : List Target = record { label = n + 1; to = to } ∷ around in
+          let inner : Around = in_loop (record { label = n + 1; to = to }) around in
           let x = code_all inner (n + 2) ops in
           let behind = hand_code parameters results ++ Jump n ∷ Label (n + 1) false ∷ rest in
           let here = subst (Here n (labels (Loop' marked start parameters p ops results to))) (loop_split y start n x rest) he in
@@ -584,11 +729,36 @@ module _ (Q : Run → Type 0) (g : Setting) (cl cr : Calls) (code : List Instruc
             lacks = bo.lacks n (omega arith) (omega arith);
           } in
           subst (λ z. Well d z (At st) (left st) k) (sym (loop_split y start n x rest)) (loop_well y start n x around rest d (run_all g cr ops) stands st k h)
+      op_well (Guard' mark p q ops results parameters u others others_results to) around n rest be he bo d st k h =
+          let f = n + 2 + labels_all ops in
+          let inner : Around = in_guard (record { label = n; mark = mark; to = parameters }) around in
+          let x = code_all inner (n + 2) ops ++ hand_code to results in
+          let y = code_all around f others ++ hand_code to others_results in
+          let here = subst (Here n (labels (Guard' mark p q ops results parameters u others others_results to))) (guard_split mark n x y rest) he in
+          let y_lacks : (l : ℕ) → Outside l f (labels_all others) → Lacks l y = λ l o. lacks_append l _ _ (lacks_all around f l others o) (lacks_hand_code l to others_results) in
+          let x_lacks : (l : ℕ) → Outside l (n + 2) (labels_all ops) → Lacks l x = λ l o. lacks_append l _ _ (lacks_all inner (n + 2) l ops o) (lacks_hand_code l to results) in
+          let first = gives (run_all g cr ops) to results in
+          let second = gives (run_all g cr others) to others_results in
+          let behind = Label (n + 1) false ∷ rest in
+          let second_well : (su : State) (o : ℕ) → After (d + 1) around behind (second su o) → Well (d + 1 + 1) (y ++ behind) (At su) (left su) o = λ su o.
+          region_of around f (labels_all others) (code_all around f others) behind to others_results (run_all g cr others)
+          (λ z he' bo'. all_well others around f z (below_more around n f (omega arith) be) he' bo')
+          (record { finds = λ l sv i a b. here.finds l sv i (omega arith) (omega arith) ∙ (skips_code l x _ _ (x_lacks l (outside_above l _ _ a)) (skips_jump l (n + 1) _ _ (skips_label l n false _ _ (λ e. absurd (omega arith)) (skips_none l (y ++ behind))))).by true sv i })
+          (record { lacks = λ l a b. lacks_label l (n + 1) false rest (λ e. absurd (omega arith)) (bo.lacks l (omega arith) (omega arith)) })
+          (d + 1) su o in
+          let first_well = region_of inner (n + 2) (labels_all ops) (code_all inner (n + 2) ops) (Jump (n + 1) ∷ Label n false ∷ (y ++ behind)) to results (run_all g cr ops)
+          (λ z he' bo'. all_well ops inner (n + 2) z (below_guard around n mark parameters be) he' bo')
+          (record { finds = λ l sv o i j. here.finds l sv o (omega arith) (omega arith) })
+          (record { lacks = λ l i j. lacks_jump l (n + 1) _ (lacks_label l n false _ (λ e. absurd (omega arith)) (lacks_append l y _ (y_lacks l (outside_below l _ _ (omega arith))) (lacks_label l (n + 1) false rest (λ e. absurd (omega arith)) (bo.lacks l (omega arith) (omega arith))))) })
+          (d + 3) (opens mark st) (k + guard_price) in
+          let r = first (opens mark st) (k + guard_price) in
+          let w = first_well (guard_how n mark parameters y rest d around second be (λ l lt. y_lacks l (outside_below l _ _ (omega arith))) (y_lacks (n + 1) (outside_below (n + 1) _ _ (omega arith))) second_well r.how r.state r.cost h) in
+          subst (λ z. Well d z (At st) (left st) k) (sym (guard_split mark n x y rest)) (record { by = λ j m lt le. w.by j (m + open_price) lt (omega arith) })
       op_well (Leave the_routine values) around n rest be he bo d st k h =
           record { by = λ j m lt le. back_well values (words_of st.env values) d rest st k j m le around h }
-      op_well (Leave (the_loop i) values) around n rest be he bo d st k h = leave_well (slice_get around i) values d rest st k (left_from d around rest i (words_of st.env values) st _ _ h)
+      op_well (Leave (the_loop i) values) around n rest be he bo d st k h = leave_well (slice_get around.loops i) values d rest st k (left_from d around rest i (words_of st.env values) st _ _ h)
 
-      pub all_well : {i : _} (ops : Row_of-Op i) (around : List Target) (n : ℕ) (rest : List Instruction) → Below around n → Here n (labels_all ops) (code_all around n ops ++ rest) → Beyond n (labels_all ops) rest → CodeWell around (code_all around n ops) rest (run_all g cr ops)
+      pub all_well : {i : _} (ops : Row_of-Op i) (around : Around) (n : ℕ) (rest : List Instruction) → Below around n → Here n (labels_all ops) (code_all around n ops ++ rest) → Beyond n (labels_all ops) rest → CodeWell around (code_all around n ops) rest (run_all g cr ops)
       all_well end_of-Op around n rest be he bo d st k h = h
       all_well (more_of-Op op ops) around n rest be he bo d st k h =
           let x = code_of around n op in
@@ -601,14 +771,14 @@ module _ (Q : Run → Type 0) (g : Setting) (cl cr : Calls) (code : List Instruc
           (record { lacks = λ l a b. lacks_append l y rest (lacks_all around (n + labels op) l ops (outside_below l _ _ (omega arith))) (bo.lacks l a (omega arith)) })
           d st k
           (flow_how r.how d around (y ++ rest) rest r.state r.cost (run_all g cr ops)
-          (record { by = λ i t e. let low : t.label < n = be.below i t e in skips_code t.label y rest rest (lacks_all around (n + labels op) t.label ops (outside_below t.label _ _ (omega arith))) (skips_none t.label rest) })
+          (record { by = λ lb e. let low : lb < n = be.below lb e in skips_code lb y rest rest (lacks_all around (n + labels op) lb ops (outside_below lb _ _ (omega arith))) (skips_none lb rest) })
           h
           (λ su o a. all_well ops around (n + labels op) rest (below_more around n _ (omega arith) be)
           (record { finds = λ l sv i c e. here.finds l sv i (omega arith) (omega arith) ∙ (skips_code l x (y ++ rest) (y ++ rest) (lacks_code around n l op (outside_above l _ _ c)) (skips_none l (y ++ rest))).by true sv i })
           (record { lacks = λ l c e. bo.lacks l (omega arith) (omega arith) })
           d su o a)))
 
-      arms_well : {i : _} (arms : Row_of-Arm i) (around : List Target) (to : List ℕ) (end n m value : ℕ) (mid rest : List Instruction) → Placed around end n (arm_count arms) m (labels_arms arms) mid (code_arms around to end n m arms) rest
+      arms_well : {i : _} (arms : Row_of-Arm i) (around : Around) (to : List ℕ) (end n m value : ℕ) (mid rest : List Instruction) → Placed around end n (arm_count arms) m (labels_arms arms) mid (code_arms around to end n m arms) rest
           → (others : State → ℕ → Run) (d : ℕ) (st : State) → ((k : ℕ) → After d around rest (others st k) → Well (d + 3 + 1) (mid ++ (code_arms around to end n m arms ++ Label end false ∷ rest)) (At st) (left st) k)
           → (k : ℕ) → After d around rest (run_arms g cr value to arms others st k) → Well (d + 5) (tests value n arms ++ (mid ++ (code_arms around to end n m arms ++ Label end false ∷ rest))) (At st) (left st) k
       arms_well end_of-Arm around to end n m value mid rest pl others d st ow k h = let w = ow k h in record { by = λ j i lt le. w.by j i lt (omega arith) }

@@ -1,8 +1,8 @@
 -- How large operations are, by which the recursion over them ends.
 use Rattle.std.proofs.Common.{◌≡◌, ℕ, ◌+◌, List, [], ◌∷◌, Bool, refl, sym, ap, ◌∙◌}
 use Rattle.rv_isa.specs.declared.instr.Relation.{Relation}
-use Rattle.ir_form.specs.declared.op.Op.{Op, Plain, If', Case', Loop', Leave, Row_of-Op, end_of-Op, more_of-Op, Row_of-Arm, end_of-Arm, more_of-Arm, items-the_row-Op, items-the_row-Arm, items_hidden-the_row-Op-0, items_hidden-the_row-Arm-1, items_shown-the_row-Op-0}
-use Rattle.ir_form.specs.declared.op.Op.TheViews.{If, Case, Loop}
+use Rattle.ir_form.specs.declared.op.Op.{Op, Plain, If', Case', Loop', Guard', Leave, Row_of-Op, end_of-Op, more_of-Op, Row_of-Arm, end_of-Arm, more_of-Arm, items-the_row-Op, items-the_row-Arm, items_hidden-the_row-Op-0, items_hidden-the_row-Arm-1, items_shown-the_row-Op-0}
+use Rattle.ir_form.specs.declared.op.Op.TheViews.{If, Case, Loop, Guard}
 use Rattle.ir_form.specs.declared.op.Region.{Region}
 use Rattle.ir_form.specs.declared.op.Arm.{Arm}
 use Rattle.rv_flat.proofs.Lists.{first_row, second_row, arm_row, sums}
@@ -13,6 +13,7 @@ abbrev mutual
   size (If' relation left right p _ ops results q _ others others_results to) = 1 + size_all ops + size_all others
   size (Case' value _ arms p _ ops results to) = 1 + size_arms arms + size_all ops
   size (Loop' marked start p _ ops results to) = 1 + size_all ops
+  size (Guard' mark p _ ops results q _ others others_results to) = 1 + size_all ops + size_all others
   size (Leave exit gives) = 1
 
   pub size_all : {n : _} → Row_of-Op n → ℕ
@@ -42,6 +43,13 @@ size_arm_row (more_of-Arm ranges p q ops results arms) = sums _ _ _ _ (ap (λ x.
 pub size-If : (relation : Relation) (left right : ℕ) (first second : Region) (to : List ℕ) → size (If relation left right first second to) ≡ 1 + size_list first.ops + size_list second.ops
 size-If relation left right first second to =
     let op = If relation left right first second to in
+    let a = size_row (first_row op).1 ∙ ap size_list (items_hidden-the_row-Op-0 first.ops) in
+    let b = size_row (second_row op).1 ∙ ap size_list (items_hidden-the_row-Op-0 second.ops) in
+    ap (λ x. 1 + x + size_all (second_row op).1) a ∙ ap (λ x. 1 + size_list first.ops + x) b
+
+pub size-Guard : (mark : ℕ) (first second : Region) (to : List ℕ) → size (Guard mark first second to) ≡ 1 + size_list first.ops + size_list second.ops
+size-Guard mark first second to =
+    let op = Guard mark first second to in
     let a = size_row (first_row op).1 ∙ ap size_list (items_hidden-the_row-Op-0 first.ops) in
     let b = size_row (second_row op).1 ∙ ap size_list (items_hidden-the_row-Op-0 second.ops) in
     ap (λ x. 1 + x + size_all (second_row op).1) a ∙ ap (λ x. 1 + size_list first.ops + x) b

@@ -5,16 +5,17 @@ use Rattle.rv_image.specs.Streams.{Folder}
 use Rattle.rv_isa.specs.Arithmetic.{holds, signed_of}
 use Rattle.ir_form.specs.Place.{Place, Setting}
 use Rattle.ir_form.specs.State.{State, How, Next, Left, Ends, Throws, Over, Run, words_of, begins, begun}
-use Rattle.ir_form.specs.Cost.{range_price}
+use Rattle.ir_form.specs.Cost.{range_price, guard_price}
 use Rattle.ir_form.specs.Plain.{Calls, act}
-use Rattle.ir_form.specs.Meaning.{hands, is_in}
+use Rattle.ir_form.specs.Meaning.{hands, is_in, opens, takes_up}
 use Rattle.ir_form.specs.Units.{start, setting_of}
-use Rattle.ir_form.proofs.Spends.{IsUsedUp, Spends, CallsSpend, GoesOn, GoesOnAfter, Covered, covered, stays, begins_spend, act_spends, hands_spend, called_spends, meant_cost, meant_paid}
+use Rattle.ir_form.proofs.Spends.{IsUsedUp, Spends, CallsSpend, GoesOn, GoesOnAfter, Covered, covered, stays, begins_spend, act_spends, takes_up_spends, hands_spend, called_spends, meant_cost, meant_paid}
 use Rattle.rv_flat.specs.declared.linear.Instruction.{Instruction}
-use Rattle.rv_flat.specs.declared.linear.Instruction.TheVariants.{Plain, Branch, Within, Hand, Jump, Label, Back}
+use Rattle.rv_flat.specs.declared.linear.Instruction.TheVariants.{Plain, Guarded, Open, Branch, Within, Hand, Jump, Label, Back}
+use Rattle.rv_flat.specs.declared.linear.Handler.{Handler}
 use Rattle.rv_flat.specs.declared.linear.LinearRoutine.{LinearRoutine}
 use Rattle.rv_flat.specs.declared.linear.Linear.{Linear}
-use Rattle.rv_flat.specs.Linear.{Config, At, Seek, Done, config, wants, do_one, pass_one, one, sweep, finish, run_code}
+use Rattle.rv_flat.specs.Linear.{Config, At, Seek, Done, config, wants, open_price, seek_how, handled, do_one, pass_one, one, sweep, finish, run_code}
 use Rattle.rv_flat.specs.Units.{head_of, calls_to, calls_within, runs_main, linear_run, linear_meaning, IsPaidWhereGoing}
 
 -- what a configuration leaves, as a run
@@ -44,8 +45,30 @@ either_spends : (b : Bool) (st : State) (c : ℕ) (x y : Config) → SpendsAt st
 either_spends true st c x y h k = h
 either_spends false st c x y h k = k
 
+seek_how_spends : (label : ℕ) (how : How) (st su : State) (c e : ℕ) → Spends st c (record { how = how; state = su; cost = e }) → SpendsAt st c (seek_how label how su e)
+seek_how_spends label Next st su c e h = h
+seek_how_spends label (Left k ws) st su c e h = h
+seek_how_spends label (Ends ws) st su c e h = h
+seek_how_spends label (Throws kind line) st su c e h = h
+seek_how_spends label (Over v) st su c e h = h
+
+-- so far, and from there on
+more : (st : State) (c : ℕ) (r s : Run) → Spends st c r → Spends r.state r.cost s → Spends st c s
+more st c r s h k = let t = h.turns in let o = h.others in let p = h.paid in let a = k.turns in let b = k.others in let d = k.paid in record { turns = omega arith; others = omega arith; paid = omega arith; used = k.used }
+
+handled_spends : (g : Setting) (t : Handler) (how : How) (st su : State) (c e : ℕ) → Spends st c (record { how = how; state = su; cost = e }) → SpendsAt st c (handled g t how su e)
+handled_spends g t Next st su c e h = h
+handled_spends g t (Left k ws) st su c e h = h
+handled_spends g t (Ends ws) st su c e h = h
+handled_spends g t (Throws kind line) st su c e h =
+    let r = takes_up g t.mark t.to kind line su (e + guard_price) in
+    seek_how_spends t.label r.how st r.state c r.cost (more st c (record { how = Throws kind line; state = su; cost = e }) r h (takes_up_spends g t.mark t.to kind line su e (e + guard_price) (omega arith)))
+handled_spends g t (Over v) st su c e h = h
+
 here_spends : (g : Setting) (calls : Calls) → CallsSpend calls → (i : Instruction) (st : State) (c e : ℕ) → c ≤ e → SpendsAt st c (do_one g calls i st e)
 here_spends g calls h (Plain p) st c e le = let r = act g calls p st e in config_spends r.how st r.state c r.cost (act_spends g calls h p st c e le)
+here_spends g calls h (Guarded p t) st c e le = let r = act g calls p st e in handled_spends g t r.how st r.state c r.cost (act_spends g calls h p st c e le)
+here_spends g calls h (Open mark) st c e le = stays Next st (opens mark st) c (e + open_price) refl refl tt (omega arith)
 here_spends g calls h (Branch relation a b l) st c e le =
     wants_spends (st.env a) st c _ _ (omega arith) (λ v. wants_spends (st.env b) st c _ _ (omega arith) (λ w. either_spends (holds relation v w) st c _ _ (stays Next st st c (e + 9) refl refl tt (omega arith)) (stays Next st st c (e + 9) refl refl tt (omega arith))))
 here_spends g calls h (Within a range l) st c e le =
@@ -57,6 +80,8 @@ here_spends g calls h (Back values) st c e le = wants_spends (words_of st.env va
 
 seek_spends : (i : Instruction) (again : Bool) (sought : ℕ) (st : State) (c e : ℕ) → c ≤ e → SpendsAt st c (pass_one i again sought st e)
 seek_spends (Plain p) again sought st c e le = stays Next st st c e refl refl tt le
+seek_spends (Guarded p t) again sought st c e le = stays Next st st c e refl refl tt le
+seek_spends (Open mark) again sought st c e le = stays Next st st c e refl refl tt le
 seek_spends (Branch relation a b l) again sought st c e le = stays Next st st c e refl refl tt le
 seek_spends (Within a range l) again sought st c e le = stays Next st st c e refl refl tt le
 seek_spends (Hand to from) again sought st c e le = stays Next st st c e refl refl tt le
@@ -65,10 +90,6 @@ seek_spends (Label l marked) again sought st c e le =
     let r = begins marked again st (e + 1) in
     either_spends (sought == l) st c _ (Seek again sought st e) (config_spends r.how st r.state c r.cost (begins_spend marked again st c (e + 1) (omega arith))) (stays Next st st c e refl refl tt le)
 seek_spends (Back values) again sought st c e le = stays Next st st c e refl refl tt le
-
--- so far, and from there on
-more : (st : State) (c : ℕ) (r s : Run) → Spends st c r → Spends r.state r.cost s → Spends st c s
-more st c r s h k = let t = h.turns in let o = h.others in let p = h.paid in let a = k.turns in let b = k.others in let d = k.paid in record { turns = omega arith; others = omega arith; paid = omega arith; used = k.used }
 
 one_spends : (g : Setting) (calls : Calls) → CallsSpend calls → (i : Instruction) (k : Config) → UsesUp k → Spends (run_at k).state (run_at k).cost (run_at (one g calls i k))
 one_spends g calls h i (At st c) u = here_spends g calls h i st c c (omega arith)

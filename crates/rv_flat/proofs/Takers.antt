@@ -6,8 +6,8 @@ use Rattle.std.proofs.lemmas.Bool.{eq-eqb}
 use Rattle.std.proofs.lemmas.List.Sums.{sum_by-cons}
 use Rattle.std.proofs.lemmas.List.Elements.{All-from_recursion, recursion_from_All, All-map, All-weaker}
 use Rattle.ir_form.specs.declared.plain.Plain.{Plain as PlainOp}
-use Rattle.ir_form.specs.declared.plain.Plain.TheVariants.{Constant, Global, Heap, Frame, Text, Compute, Load, Store, Ask, Call, Raise, Take, Give}
-use Rattle.ir_form.specs.declared.op.Op.{Op, Plain as Simple, If', Case', Loop', Leave, Row_of-Op, end_of-Op, more_of-Op, Row_of-Arm, end_of-Arm, more_of-Arm}
+use Rattle.ir_form.specs.declared.plain.Plain.TheVariants.{Constant, Global, Heap, Frame, Text, Compute, Load, Store, Ask, Call, Raise, Throw, Take, Give}
+use Rattle.ir_form.specs.declared.op.Op.{Op, Plain as Simple, If', Case', Loop', Guard', Leave, Row_of-Op, end_of-Op, more_of-Op, Row_of-Arm, end_of-Arm, more_of-Arm}
 use Rattle.ir_form.specs.declared.op.Exit.{Exit}
 use Rattle.ir_form.specs.declared.op.Exit.TheVariants.{Routine as the_routine, Loop as the_loop}
 use Rattle.ir_form.specs.declared.op.Range.{Range}
@@ -19,7 +19,8 @@ use Rattle.ir_form.proofs.Each.{both, front, back}
 use Rattle.rv_flat.specs.declared.linear.Instruction.{Instruction}
 use Rattle.rv_flat.specs.declared.linear.Instruction.TheVariants.{Back}
 use Rattle.rv_flat.specs.declared.linear.Target.{Target}
-use Rattle.rv_flat.specs.Flat.{labels, labels_all, arm_count, hand_code, leave_code, target_of, range_tests, tests, code_of, code_all, code_arms, code_list, flat_routine}
+use Rattle.rv_flat.specs.declared.linear.Handler.{Handler}
+use Rattle.rv_flat.specs.Flat.{Around, nothing_around, in_loop, in_guard, plain_code, labels, labels_all, arm_count, hand_code, leave_code, target_of, range_tests, tests, code_of, code_all, code_arms, code_list, flat_routine}
 use Rattle.rv_flat.specs.Parts.{IsDistinct, plain_takers, instruction_takers, TakesOnce}
 use Rattle.rv_flat.proofs.Parts.{Stands, stands_none, stands_more, stands_both}
 
@@ -70,6 +71,7 @@ abbrev mutual
   takers (If' relation left right p _ ops results q _ others others_results to) = takers_all ops ++ (takers_all others ++ to ∷ [])
   takers (Case' value _ arms p _ ops results to) = takers_all ops ++ (takers_arms arms ++ to ∷ [])
   takers (Loop' marked start p _ ops results to) = p ∷ (takers_all ops ++ to ∷ [])
+  takers (Guard' mark p _ ops results q _ others others_results to) = q ∷ (takers_all ops ++ (takers_all others ++ to ∷ []))
   takers (Leave exit gives) = []
 
   takers_all : {n : _} → Row_of-Op n → List (List ℕ)
@@ -96,6 +98,7 @@ plain_taken (Store width at from) h = tt
 plain_taken (Ask to service) h = tt
 plain_taken (Call routine arguments to line) h = (h, tt)
 plain_taken (Raise kind line) h = tt
+plain_taken (Throw kind line) h = tt
 plain_taken (Take to words line) h = tt
 plain_taken (Give words) h = tt
 
@@ -115,6 +118,13 @@ mutual
   op_taken (Loop' marked start p a ops results to) h =
       let x = p ++ defined_all ops in
       (part_front p (defined_all ops) (part_front x to h), both IsDistinct (takers_all ops) _ (all_taken ops (part_back p (defined_all ops) (part_front x to h))) (part_back x to h, tt))
+  op_taken (Guard' mark p a ops results q b others others_results to) h =
+      let x = p ++ defined_all ops in let y = q ++ defined_all others in
+      let rest = part_back x (y ++ to) h in (
+        part_front q (defined_all others) (part_front y to rest),
+        both IsDistinct (takers_all ops) _ (all_taken ops (part_back p (defined_all ops) (part_front x (y ++ to) h)))
+            (both IsDistinct (takers_all others) _ (all_taken others (part_back q (defined_all others) (part_front y to rest))) (part_back y to rest, tt)),
+      )
   op_taken (Leave exit gives) h = tt
 
   all_taken : {n : _} (ops : Row_of-Op n) → IsDistinct (defined_all ops) → Each IsDistinct (takers_all ops)
@@ -144,15 +154,26 @@ more i is h k = stands_more IsDistinct instruction_takers i is h k
 join : (a b : List Instruction) → Takes a → Takes b → Takes (a ++ b)
 join a b h k = stands_both IsDistinct instruction_takers a b h k
 
-record Around (around : List Target) : Type 0 where
-  known : (k : ℕ) (t : Target) → slice_get around k ≡ Some t → IsDistinct t.to
+record Lies (around : Around) : Type 0 where
+  loops : (k : ℕ) (t : Target) → slice_get around.loops k ≡ Some t → IsDistinct t.to
+  handler : (h : Handler) → around.handler ≡ Some h → IsDistinct h.to
 
-around_more : (around : List Target) (l : ℕ) (to : List ℕ) → Around around → IsDistinct to → Around (record { label = l; to = to } ∷ around)
-around_more around l to h k = record { known = known }
+lies_in_loop : (around : Around) (l : ℕ) (to : List ℕ) → Lies around → IsDistinct to → Lies (in_loop (record { label = l; to = to }) around)
+lies_in_loop around l to h k = record { loops = known; handler = h.handler }
   where
-    known : (i : ℕ) (t : Target) → slice_get (record { label = l; to = to } ∷ around) i ≡ Some t → IsDistinct t.to
+    known : (i : ℕ) (t : Target) → slice_get (record { label = l; to = to } ∷ around.loops) i ≡ Some t → IsDistinct t.to
     known zero t e = let same : record { label = l; to = to } ≡ t = cc in subst (λ (u : Target). IsDistinct u.to) same k
-    known (suc i) t e = h.known i t e
+    known (suc i) t e = h.loops i t e
+
+lies_in_guard : (around : Around) (x : Handler) → Lies around → IsDistinct x.to → Lies (in_guard x around)
+lies_in_guard around x h k = record { loops = h.loops; handler = known }
+  where
+    known : (y : Handler) → Some x ≡ Some y → IsDistinct y.to
+    known y e = let same : x ≡ y = cc in subst (λ (u : Handler). IsDistinct u.to) same k
+
+plain_takes : (o : Option Handler) (p : PlainOp) → ((h : Handler) → o ≡ Some h → IsDistinct h.to) → Each IsDistinct (plain_takers p) → Takes (plain_code o p ∷ [])
+plain_takes None p f h = more _ [] h none
+plain_takes (Some t) p f h = more _ [] (f t refl, h) none
 
 hand_takes : (to from : List ℕ) → IsDistinct to → Takes (hand_code to from)
 hand_takes to [] h = none
@@ -170,13 +191,13 @@ leave_takes : (o : Option Target) (values : List ℕ) → ((t : Target) → o �
 leave_takes None values h = more _ [] tt none
 leave_takes (Some t) values h = join _ _ (hand_takes t.to values (h t refl)) (more _ [] tt none)
 
-exit_known : (around : List Target) → Around around → (exit : Exit) (t : Target) → target_of around exit ≡ Some t → IsDistinct t.to
+exit_known : (around : Around) → Lies around → (exit : Exit) (t : Target) → target_of around exit ≡ Some t → IsDistinct t.to
 exit_known around a the_routine t e = cc
-exit_known around a (the_loop k) t e = a.known k t e
+exit_known around a (the_loop k) t e = a.loops k t e
 
 mutual
-  code_takes : (around : List Target) → Around around → (n : ℕ) (op : Op) → Each IsDistinct (takers op) → Takes (code_of around n op)
-  code_takes around a n (Simple p) h = more _ [] h none
+  code_takes : (around : Around) → Lies around → (n : ℕ) (op : Op) → Each IsDistinct (takers op) → Takes (code_of around n op)
+  code_takes around a n (Simple p) h = plain_takes around.handler p a.handler h
   code_takes around a n (If' relation left right p b ops results q c others others_results to) h =
       let rest = back IsDistinct (takers_all ops) (takers_all others ++ to ∷ []) h in
       let taken = (back IsDistinct (takers_all others) (to ∷ []) rest).0 in
@@ -192,23 +213,30 @@ mutual
   code_takes around a n (Loop' marked start p b ops results to) h =
       let taken = (back IsDistinct (takers_all ops) (to ∷ []) h.1).0 in
       join _ _ (hand_takes p start h.0) (more _ _ tt
-      (join _ _ (all_take (record { label = n + 1; to = to } ∷ around) (around_more around (n + 1) to a taken) (n + 2) ops (front IsDistinct (takers_all ops) (to ∷ []) h.1))
+      (join _ _ (all_take (in_loop (record { label = n + 1; to = to }) around) (lies_in_loop around (n + 1) to a taken) (n + 2) ops (front IsDistinct (takers_all ops) (to ∷ []) h.1))
       (join _ _ (hand_takes p results h.0) (more _ _ tt (more _ [] tt none)))))
+  code_takes around a n (Guard' mark p b ops results q c others others_results to) h =
+      let t : Handler = record { label = n; mark = mark; to = q } in
+      let rest = back IsDistinct (takers_all ops) (takers_all others ++ to ∷ []) h.1 in
+      let taken = (back IsDistinct (takers_all others) (to ∷ []) rest).0 in
+      more _ _ tt (join _ _ (join _ _ (all_take (in_guard t around) (lies_in_guard around t a h.0) (n + 2) ops (front IsDistinct (takers_all ops) (takers_all others ++ to ∷ []) h.1)) (hand_takes to results taken))
+      (more _ _ tt (more _ _ tt
+      (join _ _ (join _ _ (all_take around a (n + 2 + labels_all ops) others (front IsDistinct (takers_all others) (to ∷ []) rest)) (hand_takes to others_results taken)) (more _ [] tt none)))))
   code_takes around a n (Leave exit values) h = leave_takes (target_of around exit) values (exit_known around a exit)
 
-  all_take : (around : List Target) → Around around → (n : ℕ) {k : _} (ops : Row_of-Op k) → Each IsDistinct (takers_all ops) → Takes (code_all around n ops)
+  all_take : (around : Around) → Lies around → (n : ℕ) {k : _} (ops : Row_of-Op k) → Each IsDistinct (takers_all ops) → Takes (code_all around n ops)
   all_take around a n end_of-Op h = none
   all_take around a n (more_of-Op op ops) h =
       join _ _ (code_takes around a n op (front IsDistinct (takers op) (takers_all ops) h)) (all_take around a (n + labels op) ops (back IsDistinct (takers op) (takers_all ops) h))
 
-  arms_take : (around : List Target) → Around around → (to : List ℕ) (end n m : ℕ) {k : _} (arms : Row_of-Arm k) → Each IsDistinct (takers_arms arms) → IsDistinct to → Takes (code_arms around to end n m arms)
+  arms_take : (around : Around) → Lies around → (to : List ℕ) (end n m : ℕ) {k : _} (arms : Row_of-Arm k) → Each IsDistinct (takers_arms arms) → IsDistinct to → Takes (code_arms around to end n m arms)
   arms_take around a to end n m end_of-Arm h k = none
   arms_take around a to end n m (more_of-Arm [] p b ops results arms) h k = arms_take around a to end (n + 1) (m + 0) arms (back IsDistinct (takers_all ops) (takers_arms arms) h) k
   arms_take around a to end n m (more_of-Arm (r ∷ rs) p b ops results arms) h k =
       more _ _ tt (more _ _ tt (join _ _ (join _ _ (all_take around a m ops (front IsDistinct (takers_all ops) (takers_arms arms) h)) (hand_takes to results k))
       (arms_take around a to end (n + 1) (m + labels_all ops) arms (back IsDistinct (takers_all ops) (takers_arms arms) h) k)))
 
-list_takes : (around : List Target) → Around around → (n : ℕ) (ops : List Op) → Each IsDistinct (takers_list ops) → Takes (code_list around n ops)
+list_takes : (around : Around) → Lies around → (n : ℕ) (ops : List Op) → Each IsDistinct (takers_list ops) → Takes (code_list around n ops)
 list_takes around a n [] h = none
 list_takes around a n (op ∷ ops) h =
     join _ _ (code_takes around a n op (front IsDistinct (takers op) (takers_list ops) h)) (list_takes around a (n + labels op) ops (back IsDistinct (takers op) (takers_list ops) h))
@@ -216,7 +244,7 @@ list_takes around a n (op ∷ ops) h =
 routine_takes : (r : Routine) → IsDistinct (values_of r) → TakesOnce (flat_routine r)
 routine_takes r h =
     let p = r.body.parameters in let ops = r.body.ops in let end = Back r.body.results ∷ [] in
-    let takes = join (code_list [] 0 ops) end (list_takes [] (record { known = λ k t e. cc }) 0 ops (list_taken ops (part_back p (defined_list ops) h))) (more _ [] tt none) in
+    let takes = join (code_list nothing_around 0 ops) end (list_takes nothing_around (record { loops = λ k t e. cc; handler = λ x e. cc }) 0 ops (list_taken ops (part_back p (defined_list ops) h))) (more _ [] tt none) in
     record { parameters = part_front p (defined_list ops) h; taken = All-from_recursion IsDistinct _ takes.each }
 
 pub unit_takes : (u : RegionUnit) → IsValid u → All TakesOnce (map flat_routine u.routines)

@@ -16,22 +16,21 @@ use Rattle.ir_form.specs.Units.{head_of, body_of, calls_to, calls_within, runs_m
 use Rattle.ir_form.proofs.Spends.{CallsSpend, calls_spend}
 use Rattle.rv_flat.specs.declared.linear.Instruction.{Instruction}
 use Rattle.rv_flat.specs.declared.linear.Instruction.TheVariants.{Back}
-use Rattle.rv_flat.specs.declared.linear.Target.{Target}
 use Rattle.rv_flat.specs.Linear.{At, Done, wants, finish, run_code}
 use Rattle.rv_flat.specs.Units.{linear_run}
 use Rattle.rv_flat.specs.Units as linear
-use Rattle.rv_flat.specs.Flat.{labels, labels_list, code_of, code_list, flat_routine, flat_unit}
+use Rattle.rv_flat.specs.Flat.{labels, labels_list, code_of, code_list, flat_routine, flat_unit, Around, nothing_around}
 use Rattle.rv_flat.specs.Keeps.{Cheaper, Keeps}
 use Rattle.rv_flat.proofs.Close.{CheaperBy, Close, CallsClose, called_close}
 use Rattle.rv_flat.proofs.Sweeps.{Lacks, Outside, lacks_none, lacks_append, within, lacks_code}
-use Rattle.rv_flat.proofs.Runs.{left, Below, Well, AfterHow, Here, Beyond, CodeWell, op_well, flow_how, skips_code, skips_none, below_more, outside_below, outside_above}
+use Rattle.rv_flat.proofs.Runs.{left, Below, Well, AfterHow, Here, Beyond, CodeWell, op_well, flow_how, skips_code, skips_none, below_more, outside_below, outside_above, IsLabel, OfLoop, OfHandler}
 
-lacks_list : (around : List Target) (n l : ℕ) (ops : List Op) → Outside l n (labels_list ops) → Lacks l (code_list around n ops)
+lacks_list : (around : Around) (n l : ℕ) (ops : List Op) → Outside l n (labels_list ops) → Lacks l (code_list around n ops)
 lacks_list around n l [] o = lacks_none l
 lacks_list around n l (op ∷ ops) o =
     lacks_append l (code_of around n op) _ (lacks_code around n l op (within l n _ n _ o (omega arith) (omega arith))) (lacks_list around (n + labels op) l ops (within l n _ (n + labels op) _ o (omega arith) (omega arith)))
 
-list_well : (Q : Run → Type 0) (g : Setting) (cl cr : Calls) (code : List Instruction) → CallsClose cl cr → CallsSpend cr → (ops : List Op) (around : List Target) (n : ℕ) (rest : List Instruction) → Below around n
+list_well : (Q : Run → Type 0) (g : Setting) (cl cr : Calls) (code : List Instruction) → CallsClose cl cr → CallsSpend cr → (ops : List Op) (around : Around) (n : ℕ) (rest : List Instruction) → Below around n
     → Here Q g cl cr code n (labels_list ops) (code_list around n ops ++ rest) → Beyond Q g cl cr code n (labels_list ops) rest → CodeWell Q g cl cr code around (code_list around n ops) rest (run_list g cr ops)
 list_well Q g cl cr code ch sh [] around n rest be he bo d st k h = h
 list_well Q g cl cr code ch sh (op ∷ ops) around n rest be he bo d st k h =
@@ -45,7 +44,7 @@ list_well Q g cl cr code ch sh (op ∷ ops) around n rest be he bo d st k h =
     (record { lacks = λ l a b. lacks_append l y rest (lacks_list around (n + labels op) l ops (outside_below Q g cl cr code l _ _ (omega arith))) (bo.lacks l a (omega arith)) })
     d st k
     (flow_how Q g cl cr code r.how d around (y ++ rest) rest r.state r.cost (run_list g cr ops)
-    (record { by = λ i t e. let low : t.label < n = be.below i t e in skips_code Q g cl cr code t.label y rest rest (lacks_list around (n + labels op) t.label ops (outside_below Q g cl cr code t.label _ _ (omega arith))) (skips_none Q g cl cr code t.label rest) })
+    (record { by = λ lb e. let low : lb < n = be.below lb e in skips_code Q g cl cr code lb y rest rest (lacks_list around (n + labels op) lb ops (outside_below Q g cl cr code lb _ _ (omega arith))) (skips_none Q g cl cr code lb rest) })
     h
     (λ su o a. list_well Q g cl cr code ch sh ops around (n + labels op) rest (below_more Q g cl cr code around n _ (omega arith) be)
     (record { finds = λ l sv i c e. here.finds l sv i (omega arith) (omega arith) ∙ (skips_code Q g cl cr code l x (y ++ rest) (y ++ rest) (lacks_code around n l op (outside_above Q g cl cr code l _ _ c)) (skips_none Q g cl cr code l (y ++ rest))).by true sv i })
@@ -65,22 +64,26 @@ done_cheaper g cl code how d st n zero m le = record { how = refl; state = refl;
 done_cheaper g cl code how d st n (suc j) m le = record { how = refl; state = refl; cost = le }
 
 -- what is asked of the end of a routine
-ends_well : (g : Setting) (cl cr : Calls) (code : List Instruction) (results : List ℕ) (d : ℕ) (how : How) (st : State) (n : ℕ) → AfterHow (λ e. CheaperBy d e (ended results how st n)) g cl cr code d [] (Back results ∷ []) how st n
+ends_well : (g : Setting) (cl cr : Calls) (code : List Instruction) (results : List ℕ) (d : ℕ) (how : How) (st : State) (n : ℕ) → AfterHow (λ e. CheaperBy d e (ended results how st n)) g cl cr code d nothing_around (Back results ∷ []) how st n
 ends_well g cl cr code results d Next st n = record { by = λ j m lt le. back_cheaper (words_of st.env results) g cl code (length results) d st n j m le }
 ends_well g cl cr code results d (Left k ws) st n = record { by = λ j m lt le. done_cheaper g cl code (Ends ws) d st n j m le }
 ends_well g cl cr code results d (Ends ws) st n = λ m le. record { how = refl; state = refl; cost = le }
 ends_well g cl cr code results d (Throws kind line) st n = λ m le. record { how = refl; state = refl; cost = le }
 ends_well g cl cr code results d (Over v) st n = λ m le. record { how = refl; state = refl; cost = le }
 
+none_around : (l : ℕ) → IsLabel nothing_around l → l < 0
+none_around l (OfLoop k t e q) = cc
+none_around l (OfHandler h e q) = cc
+
 body_cheaper : (g : Setting) (cl cr : Calls) → CallsClose cl cr → CallsSpend cr → (r : Routine) (st : State) (m n d : ℕ) → m + d ≤ n → CheaperBy d (run_code g cl (flat_routine r).code st m) (body_of g cr r st n)
 body_cheaper g cl cr ch sh r st m n d le =
     let ops = r.body.ops in
     let back = Back r.body.results ∷ [] in
-    let code = code_list [] 0 ops ++ back in
+    let code = code_list nothing_around 0 ops ++ back in
     let f = run_list g cr ops st n in
     let Q : Run → Type 0 = λ (e : Run). CheaperBy d e (ended r.body.results f.how f.state f.cost) in
-    let w = list_well Q g cl cr code ch sh ops [] 0 back
-    (record { below = λ i t e. cc })
+    let w = list_well Q g cl cr code ch sh ops nothing_around 0 back
+    (record { below = none_around })
     (record { finds = λ l su o a b. refl })
     (record { lacks = λ l a b. record { passes = λ h calls again su o. refl } })
     d st n (ends_well g cl cr code r.body.results d f.how f.state f.cost) in

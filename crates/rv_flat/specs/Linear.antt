@@ -3,16 +3,23 @@ use Rattle.std.specs.Prelude.{ℕ, zero, suc, ◌+◌, ◌*◌, List, [], ◌∷
 use Rattle.rv_isa.specs.Arithmetic.{holds, signed_of}
 use Rattle.ir_form.specs.Place.{Setting}
 use Rattle.ir_form.specs.State.{State, Stuck, How, Next, Left, Ends, Throws, Over, Run, over, words_of, begins}
-use Rattle.ir_form.specs.Cost.{plain_price, value_price, range_price}
+use Rattle.ir_form.specs.Cost.{plain_price, value_price, range_price, guard_price}
 use Rattle.ir_form.specs.Plain.{Calls, act}
-use Rattle.ir_form.specs.Meaning.{hands, is_in}
+use Rattle.ir_form.specs.Meaning.{hands, is_in, opens, takes_up}
 use Rattle.rv_flat.specs.declared.linear.Instruction.{Instruction}
-use Rattle.rv_flat.specs.declared.linear.Instruction.TheVariants.{Plain, Branch, Within, Hand, Jump, Label, Back}
+use Rattle.rv_flat.specs.declared.linear.Instruction.TheVariants.{Plain, Guarded, Open, Branch, Within, Hand, Jump, Label, Back}
+use Rattle.rv_flat.specs.declared.linear.Handler.{Handler}
 
 -- What an instruction costs: the instructions of the machine that run for it at most, with values and labels far away. A branch loads two
--- values, and jumps over a jump. A label is one instruction that does nothing.
+-- values, and jumps over a jump. A label is one instruction that does nothing. The price of a Guard's beginning is that of its opening, its two labels
+-- and a jump.
+abbrev pub open_price : ℕ
+open_price = 56
+
 abbrev pub price : Instruction → ℕ
 price (Plain p) = plain_price p
+price (Guarded p h) = plain_price p
+price (Open mark) = open_price
 price (Branch relation left right label) = 9
 price (Within value range label) = range_price
 price (Hand to from) = 1 + value_price * length from
@@ -40,9 +47,33 @@ abbrev pub wants : {A : Type 0} → Option A → State → ℕ → (A → Config
 wants None st c go = Done (Over Stuck) st c
 wants (Some v) st c go = go v
 
+-- on the way to a handler
+abbrev pub seek_how : (label : ℕ) → How → State → ℕ → Config
+seek_how label Next st c = Seek false label st c
+seek_how label (Left k ws) st c = Done (Left k ws) st c
+seek_how label (Ends ws) st c = Done (Ends ws) st c
+seek_how label (Throws kind line) st c = Done (Throws kind line) st c
+seek_how label (Over v) st c = Done (Over v) st c
+
+abbrev pub seek_run : (label : ℕ) → Run → Config
+seek_run label r = seek_how label r.how r.state r.cost
+
+-- an operation whose exception is taken
+abbrev pub handled : Setting → Handler → How → State → ℕ → Config
+handled g h Next st c = At st c
+handled g h (Left k ws) st c = Done (Left k ws) st c
+handled g h (Ends ws) st c = Done (Ends ws) st c
+handled g h (Throws kind line) st c = seek_run h.label (takes_up g h.mark h.to kind line st (c + guard_price))
+handled g h (Over v) st c = Done (Over v) st c
+
+abbrev pub handled_run : Setting → Handler → Run → Config
+handled_run g h r = handled g h r.how r.state r.cost
+
 -- an instruction that the run comes to
 abbrev pub do_one : Setting → Calls → Instruction → State → ℕ → Config
 do_one g calls (Plain p) st c = config_of (act g calls p st c)
+do_one g calls (Guarded p h) st c = handled_run g h (act g calls p st c)
+do_one g calls (Open mark) st c = At (opens mark st) (c + open_price)
 do_one g calls (Branch relation left right label) st c =
     wants (st.env left) st (c + 9) (λ v. wants (st.env right) st (c + 9) (λ w. if holds relation v w then At st (c + 9) else Seek false label st (c + 9)))
 do_one g calls (Within value range label) st c =

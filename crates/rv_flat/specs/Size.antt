@@ -1,9 +1,9 @@
--- How many words of text linear code takes at most, with values and labels far away.
+-- How many words of text linear code takes at most, with values and labels far away. The way to a Guard's handler stands in its opening.
 use Rattle.std.specs.Prelude.{ℕ, ◌+◌, ◌*◌, List, [], ◌∷◌, length}
 use Rattle.ir_form.specs.declared.plain.Plain.{Plain as PlainOp}
-use Rattle.ir_form.specs.declared.plain.Plain.TheVariants.{Constant, Global, Heap, Frame, Text, Compute, Load, Store, Ask, Call, Raise, Take, Give}
+use Rattle.ir_form.specs.declared.plain.Plain.TheVariants.{Constant, Global, Heap, Frame, Text, Compute, Load, Store, Ask, Call, Raise, Throw, Take, Give}
 use Rattle.rv_flat.specs.declared.linear.Instruction.{Instruction}
-use Rattle.rv_flat.specs.declared.linear.Instruction.TheVariants.{Plain, Branch, Within, Hand, Jump, Label, Back}
+use Rattle.rv_flat.specs.declared.linear.Instruction.TheVariants.{Plain, Guarded, Open, Branch, Within, Hand, Jump, Label, Back}
 use Rattle.rv_flat.specs.declared.linear.LinearRoutine.{LinearRoutine}
 use Rattle.rv_flat.specs.declared.linear.Linear.{Linear}
 
@@ -19,11 +19,14 @@ plain_size (Store width at from) = 7
 plain_size (Ask to service) = 14
 plain_size (Call routine arguments to line) = 14 + 6 * length arguments + 4 * length to
 plain_size (Raise kind line) = 6
+plain_size (Throw kind line) = 12
 plain_size (Take to words line) = 14
 plain_size (Give words) = 14
 
 abbrev pub instruction_size : Instruction → ℕ
 instruction_size (Plain p) = plain_size p
+instruction_size (Guarded p h) = plain_size p
+instruction_size (Open mark) = 38
 instruction_size (Branch relation left right label) = 9
 instruction_size (Within value range label) = 11
 instruction_size (Hand to from) = 1 + 12 * length from

@@ -2,6 +2,7 @@
 
 ghost use Rattle.std.specs.Prelude.{◌≡◌, IfOk};
 
+use crate::linear::Handler;
 use ir_form::Plain;
 use sqlite_items::Items;
 use std::alloc::Global;
@@ -13,6 +14,18 @@ pub fn copied_values(alloc: Global, values: &Items<u32>) -> Result<Items<u32>, M
 {
     let copy = Items::from_slice(alloc, values.as_slice())?;
     Ok(copy)
+}
+
+/// A copy of what takes an exception. It fails only for want of memory.
+pub fn copied_handler(alloc: Global, handler: &Handler) -> Result<Handler, Memory>
+    ensures { IfOk result (λ copy. copy ≡ handler.now) }
+{
+    let to = copied_values(alloc, &handler.to)?;
+    Ok(Handler {
+        label: handler.label,
+        mark: handler.mark,
+        to,
+    })
 }
 
 /// A copy of an operation. It fails only for want of memory.
@@ -78,6 +91,10 @@ pub fn copied_plain(alloc: Global, plain: &Plain) -> Result<Plain, Memory>
             })
         }
         Plain::Raise { kind, line } => Ok(Plain::Raise {
+            kind: *kind,
+            line: *line,
+        }),
+        Plain::Throw { kind, line } => Ok(Plain::Throw {
             kind: *kind,
             line: *line,
         }),

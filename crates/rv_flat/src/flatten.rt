@@ -1,12 +1,12 @@
 // The linear code of operations.
 
-ghost use Rattle.std.specs.Prelude.{◌≡◌, ℕ, ◌+◌, ◌<◌, ◌^◌, [], ◌∷◌, ◌++◌, reverse, length, IfOk, OnOk};
+ghost use Rattle.std.specs.Prelude.{◌≡◌, ℕ, ◌+◌, ◌<◌, ◌^◌, [], ◌∷◌, ◌++◌, length, Option, None, IfOk, OnOk};
 ghost use Rattle.std.specs.Option.{option_copied};
-ghost use Rattle.rv_flat.specs.Flat.{labels, labels_list, labels_each, arm_labels, code_of, code_list, hand_code, leave_code, target_of, range_tests, tests_each, region_code, arm_code, case_code, choice_code, rounds_code};
+ghost use Rattle.rv_flat.specs.Flat.{around_of, labels, labels_list, labels_each, arm_labels, plain_code, code_of, code_list, hand_code, leave_code, target_of, range_tests, tests_each, region_code, arm_code, case_code, choice_code, rounds_code, handling_code};
 
-use crate::copy::{copied_plain, copied_values};
-use crate::linear::{Instruction, Target};
-use ir_form::{Arm, Exit, Op, Range, Region};
+use crate::copy::{copied_handler, copied_plain, copied_values};
+use crate::linear::{Handler, Instruction, Target};
+use ir_form::{Arm, Exit, Op, Plain, Range, Region};
 use sqlite_items::Items;
 use std::alloc::Global;
 use tu_base::Memory;
@@ -23,7 +23,7 @@ fn reserved(next: u64, count: u64) -> Result<u64, Memory>
 
 // The loop that is left, among those around, the innermost of which is the last.
 fn target(around: &[Target], exit: Exit) -> Option<&Target>
-    ensures { option_copied result ≡ target_of (reverse around.now) exit }
+    ensures { option_copied result ≡ target_of (around_of around.now None) exit }
 {
     match exit {
         Exit::Routine => None,
@@ -38,11 +38,12 @@ fn target(around: &[Target], exit: Exit) -> Option<&Target>
     }
 }
 
-// The code of a routine so far, and the loops around what comes next.
+// The code of a routine so far, the loops around what comes next, and what takes its exceptions.
 #[derive(Drop)]
 pub struct Output {
     code: Vec<Instruction>,
     around: Vec<Target>,
+    handler: Option<Handler>,
 }
 
 // Each `put` answers the label after its own, which begin at `next`.
@@ -51,10 +52,12 @@ impl Output {
     pub fn new(alloc: Global) -> Self
         ensures code { result.code.items ≡ [] }
         ensures around { result.around.items ≡ [] }
+        ensures handler { result.handler ≡ None }
     {
         Output {
             code: Vec::new(alloc),
             around: Vec::new(alloc),
+            handler: None,
         }
     }
 
@@ -69,6 +72,7 @@ impl Output {
     pub fn put(&mut self, instruction: Instruction) -> Result<(), Memory>
         ensures code { OnOk result (self.new.code.items ≡ self.old.code.items ++ instruction ∷ []) }
         ensures around { OnOk result (self.new.around.items ≡ self.old.around.items) }
+        ensures handler { OnOk result (self.new.handler ≡ self.old.handler) }
     {
         self.code.push(instruction)?;
         Ok(())
@@ -77,14 +81,32 @@ impl Output {
     fn put_label(&mut self, label: u64, marked: bool) -> Result<(), Memory>
         ensures code { OnOk result (self.new.code.items ≡ self.old.code.items ++ Instruction.Label label marked ∷ []) }
         ensures around { OnOk result (self.new.around.items ≡ self.old.around.items) }
+        ensures handler { OnOk result (self.new.handler ≡ self.old.handler) }
     {
         self.put(Instruction::Label { label, marked })
+    }
+
+    // An operation, whose exception what lies around takes.
+    fn put_plain(&mut self, alloc: Global, plain: &Plain) -> Result<(), Memory>
+        ensures code { OnOk result (self.new.code.items ≡ self.old.code.items ++ plain_code self.old.handler plain.now ∷ []) }
+        ensures around { OnOk result (self.new.around.items ≡ self.old.around.items) }
+        ensures handler { OnOk result (self.new.handler ≡ self.old.handler) }
+    {
+        let plain = copied_plain(alloc, plain)?;
+        match &self.handler {
+            None => self.put(Instruction::Plain(plain)),
+            Some(handler) => {
+                let handler = copied_handler(alloc, handler)?;
+                self.put(Instruction::Guarded { plain, handler })
+            }
+        }
     }
 
     // Hands values on, if there are any.
     fn put_hand(&mut self, alloc: Global, to: &Items<u32>, from: &Items<u32>) -> Result<(), Memory>
         ensures code { OnOk result (self.new.code.items ≡ self.old.code.items ++ hand_code to.now from.now) }
         ensures around { OnOk result (self.new.around.items ≡ self.old.around.items) }
+        ensures handler { OnOk result (self.new.handler ≡ self.old.handler) }
     {
         if from.is_empty() {
             return Ok(());
@@ -95,8 +117,9 @@ impl Output {
     }
 
     fn put_leave(&mut self, alloc: Global, exit: Exit, gives: &Items<u32>) -> Result<(), Memory>
-        ensures code { OnOk result (self.new.code.items ≡ self.old.code.items ++ leave_code (target_of (reverse self.old.around.items) exit) gives.now) }
+        ensures code { OnOk result (self.new.code.items ≡ self.old.code.items ++ leave_code (target_of (around_of self.old.around.items self.old.handler) exit) gives.now) }
         ensures around { OnOk result (self.new.around.items ≡ self.old.around.items) }
+        ensures handler { OnOk result (self.new.handler ≡ self.old.handler) }
     {
         match target(self.around.as_slice(), exit) {
             None => {
@@ -116,6 +139,7 @@ impl Output {
     fn put_range_tests(&mut self, value: u32, label: u64, ranges: &[Range]) -> Result<(), Memory>
         ensures code { OnOk result (self.new.code.items ≡ self.old.code.items ++ range_tests value label ranges.now) }
         ensures around { OnOk result (self.new.around.items ≡ self.old.around.items) }
+        ensures handler { OnOk result (self.new.handler ≡ self.old.handler) }
     {
         for range in ranges {
             self.put(Instruction::Within {
@@ -132,6 +156,7 @@ impl Output {
         requires { first + length arms.now < 2 ^ 64 }
         ensures code { OnOk result (self.new.code.items ≡ self.old.code.items ++ tests_each value first arms.now) }
         ensures around { OnOk result (self.new.around.items ≡ self.old.around.items) }
+        ensures handler { OnOk result (self.new.handler ≡ self.old.handler) }
     {
         let mut label = first;
         for arm in arms {
@@ -143,8 +168,9 @@ impl Output {
 
     #[cycle(put)]
     pub fn put_ops(&mut self, alloc: Global, next: u64, ops: &[Op]) -> Result<u64, Memory>
-        ensures code { OnOk result (self.new.code.items ≡ self.old.code.items ++ code_list (reverse self.old.around.items) next ops.now) }
+        ensures code { OnOk result (self.new.code.items ≡ self.old.code.items ++ code_list (around_of self.old.around.items self.old.handler) next ops.now) }
         ensures around { OnOk result (self.new.around.items ≡ self.old.around.items) }
+        ensures handler { OnOk result (self.new.handler ≡ self.old.handler) }
         ensures next { IfOk result (λ n. n ≡ next + labels_list ops.now) }
     {
         let mut n = next;
@@ -163,8 +189,9 @@ impl Output {
         region: &Region,
         to: &Items<u32>,
     ) -> Result<u64, Memory>
-        ensures code { OnOk result (self.new.code.items ≡ self.old.code.items ++ region_code (reverse self.old.around.items) next to.now region.now) }
+        ensures code { OnOk result (self.new.code.items ≡ self.old.code.items ++ region_code (around_of self.old.around.items self.old.handler) next to.now region.now) }
         ensures around { OnOk result (self.new.around.items ≡ self.old.around.items) }
+        ensures handler { OnOk result (self.new.handler ≡ self.old.handler) }
         ensures next { IfOk result (λ n. n ≡ next + labels_list region.now.ops) }
     {
         let n = self.put_ops(alloc, next, region.ops.as_slice())?;
@@ -174,14 +201,14 @@ impl Output {
 
     #[cycle(put)]
     fn put_op(&mut self, alloc: Global, next: u64, op: &Op) -> Result<u64, Memory>
-        ensures code { OnOk result (self.new.code.items ≡ self.old.code.items ++ code_of (reverse self.old.around.items) next op.now) }
+        ensures code { OnOk result (self.new.code.items ≡ self.old.code.items ++ code_of (around_of self.old.around.items self.old.handler) next op.now) }
         ensures around { OnOk result (self.new.around.items ≡ self.old.around.items) }
+        ensures handler { OnOk result (self.new.handler ≡ self.old.handler) }
         ensures next { IfOk result (λ n. n ≡ next + labels op.now) }
     {
         match op {
             Op::Plain(plain) => {
-                let plain = copied_plain(alloc, plain)?;
-                self.put(Instruction::Plain(plain))?;
+                self.put_plain(alloc, plain)?;
                 Ok(next)
             }
             Op::If {
@@ -216,6 +243,15 @@ impl Output {
                 self.put_label(next, *marked)?;
                 self.put_rounds(alloc, next, body, to)
             }
+            Op::Guard {
+                mark,
+                body,
+                handler,
+                to,
+            } => {
+                self.put(Instruction::Open { mark: *mark })?;
+                self.put_handling(alloc, next, *mark, body, handler, to)
+            }
             Op::Leave { exit, gives } => {
                 self.put_leave(alloc, *exit, gives)?;
                 Ok(next)
@@ -233,8 +269,9 @@ impl Output {
         no: &Region,
         to: &Items<u32>,
     ) -> Result<u64, Memory>
-        ensures code { OnOk result (self.new.code.items ≡ self.old.code.items ++ choice_code (reverse self.old.around.items) next yes.now no.now to.now) }
+        ensures code { OnOk result (self.new.code.items ≡ self.old.code.items ++ choice_code (around_of self.old.around.items self.old.handler) next yes.now no.now to.now) }
         ensures around { OnOk result (self.new.around.items ≡ self.old.around.items) }
+        ensures handler { OnOk result (self.new.handler ≡ self.old.handler) }
         ensures next { IfOk result (λ n. n ≡ next + 2 + labels_list yes.now.ops + labels_list no.now.ops) }
     {
         let behind = reserved(next, 2)?;
@@ -255,8 +292,9 @@ impl Output {
         body: &Region,
         to: &Items<u32>,
     ) -> Result<u64, Memory>
-        ensures code { OnOk result (self.new.code.items ≡ self.old.code.items ++ rounds_code (reverse self.old.around.items) next body.now to.now) }
+        ensures code { OnOk result (self.new.code.items ≡ self.old.code.items ++ rounds_code (around_of self.old.around.items self.old.handler) next body.now to.now) }
         ensures around { OnOk result (self.new.around.items ≡ self.old.around.items) }
+        ensures handler { OnOk result (self.new.handler ≡ self.old.handler) }
         ensures next { IfOk result (λ n. n ≡ next + 2 + labels_list body.now.ops) }
     {
         let behind = reserved(next, 2)?;
@@ -268,6 +306,38 @@ impl Output {
         let n = self.put_region(alloc, behind, body, &body.parameters)?;
         let _ = self.around.pop();
         self.put(Instruction::Jump { label: next })?;
+        self.put_label(next + 1, false)?;
+        Ok(n)
+    }
+
+    // The two regions of a Guard, behind its opening.
+    #[cycle(put)]
+    fn put_handling(
+        &mut self,
+        alloc: Global,
+        next: u64,
+        mark: u32,
+        body: &Region,
+        handler: &Region,
+        to: &Items<u32>,
+    ) -> Result<u64, Memory>
+        ensures code { OnOk result (self.new.code.items ≡ self.old.code.items ++ handling_code (around_of self.old.around.items self.old.handler) next mark body.now handler.now to.now) }
+        ensures around { OnOk result (self.new.around.items ≡ self.old.around.items) }
+        ensures handler { OnOk result (self.new.handler ≡ self.old.handler) }
+        ensures next { IfOk result (λ n. n ≡ next + 2 + labels_list body.now.ops + labels_list handler.now.ops) }
+    {
+        let behind = reserved(next, 2)?;
+        let parameters = copied_values(alloc, &handler.parameters)?;
+        let outer = self.handler.replace(Handler {
+            label: next,
+            mark,
+            to: parameters,
+        });
+        let n = self.put_region(alloc, behind, body, to)?;
+        self.handler = outer;
+        self.put(Instruction::Jump { label: next + 1 })?;
+        self.put_label(next, false)?;
+        let n = self.put_region(alloc, n, handler, to)?;
         self.put_label(next + 1, false)?;
         Ok(n)
     }
@@ -284,8 +354,9 @@ impl Output {
         others: &Region,
         to: &Items<u32>,
     ) -> Result<u64, Memory>
-        ensures code { OnOk result (self.new.code.items ≡ self.old.code.items ++ case_code (reverse self.old.around.items) next value arms.now others.now to.now) }
+        ensures code { OnOk result (self.new.code.items ≡ self.old.code.items ++ case_code (around_of self.old.around.items self.old.handler) next value arms.now others.now to.now) }
         ensures around { OnOk result (self.new.around.items ≡ self.old.around.items) }
+        ensures handler { OnOk result (self.new.handler ≡ self.old.handler) }
         ensures next { IfOk result (λ n. n ≡ next + 1 + length arms.now + labels_list others.now.ops + labels_each arms.now) }
     {
         let first = reserved(next, 1)?;
@@ -312,8 +383,9 @@ impl Output {
         arm: &Arm,
         to: &Items<u32>,
     ) -> Result<u64, Memory>
-        ensures code { OnOk result (self.new.code.items ≡ self.old.code.items ++ arm_code arm.now.ranges end label (region_code (reverse self.old.around.items) next to.now arm.now.region)) }
+        ensures code { OnOk result (self.new.code.items ≡ self.old.code.items ++ arm_code arm.now.ranges end label (region_code (around_of self.old.around.items self.old.handler) next to.now arm.now.region)) }
         ensures around { OnOk result (self.new.around.items ≡ self.old.around.items) }
+        ensures handler { OnOk result (self.new.handler ≡ self.old.handler) }
         ensures next { IfOk result (λ n. n ≡ next + arm_labels arm.now.ranges (labels_list arm.now.region.ops)) }
     {
         if arm.ranges.is_empty() {

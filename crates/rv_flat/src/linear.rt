@@ -9,6 +9,15 @@ use tu_base::Bytes;
 #[derive(Drop)]
 pub enum Instruction {
     Plain(Plain),
+    /// Goes to the handler where the operation raises an exception, which is taken there.
+    Guarded {
+        plain: Plain,
+        handler: Handler,
+    },
+    /// A Guard begins. Its mark keeps how many words the activation has taken.
+    Open {
+        mark: u32,
+    },
     /// Goes to the label unless the relation holds.
     Branch {
         relation: Relation,
@@ -64,6 +73,15 @@ pub struct Linear {
     pub routines: Items<LinearRoutine>,
     /// The bytes of the literals.
     pub texts: Bytes,
+}
+
+/// What takes an exception: the label of the handler, the mark of its Guard, and the values that
+/// take the exception's number and line.
+#[derive(Drop)]
+pub struct Handler {
+    pub label: u64,
+    pub mark: u32,
+    pub to: Items<u32>,
 }
 
 /// A loop that can be left: the label behind it, and the values that it defines.

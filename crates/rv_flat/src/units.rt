@@ -7,7 +7,7 @@ ghost use Rattle.ir_form.specs.Weight.{unit_weight};
 ghost use Rattle.rv_flat.specs.Flat.{flat_routine, flat_unit};
 ghost use Rattle.rv_flat.specs.Keeps.{Keeps};
 ghost use Rattle.rv_flat.specs.Lawful.{IsLawful};
-ghost use Rattle.rv_flat.specs.Parts.{KeepsParts, HasItsLabels, TakesOnce};
+ghost use Rattle.rv_flat.specs.Parts.{KeepsParts, HasItsLabels, TakesOnce, IsUnguarded, IsUnguardedUnit};
 ghost use Rattle.rv_flat.specs.Size.{linear_size};
 
 use crate::copy::copied_values;
@@ -24,7 +24,8 @@ pub fn flat(alloc: Global, unit: &Unit) -> Result<Linear, Memory>
     ensures parts { IfOk result (λ linear. KeepsParts unit.now linear) }
     ensures labels { IfOk result (λ linear. All (λ r. HasItsLabels r.code) linear.routines) }
     ensures taken_once { IfOk result (λ linear. IsValid unit.now → All TakesOnce linear.routines) }
-    ensures lawful { IfOk result (λ linear. IsLawfulUnit unit.now → IsLawful linear) }
+    ensures unguarded { IfOk result (λ linear. IsUnguardedUnit unit.now → IsUnguarded linear) }
+    ensures lawful { IfOk result (λ linear. IsValid unit.now → IsLawfulUnit unit.now → IsLawful linear) }
     ensures size { IfOk result (λ linear. linear_size linear ≤ WORDS * unit_weight unit.now) }
 {
     flat_exactly(alloc, unit)

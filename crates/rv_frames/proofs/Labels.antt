@@ -4,13 +4,16 @@ use Rattle.std.specs.Prelude.{All, if◌then◌else◌, slice_get}
 use Rattle.std.proofs.lemmas.Bool.{eq-eqb}
 use Rattle.std.proofs.lemmas.List.Elements.{All-head, All-tail}
 use Rattle.rv_flat.specs.declared.linear.Instruction.{Instruction}
-use Rattle.rv_flat.specs.declared.linear.Instruction.TheVariants.{Plain, Branch, Within, Hand, Jump, Label, Back}
+use Rattle.rv_flat.specs.declared.linear.Instruction.TheVariants.{Plain, Guarded, Open, Branch, Within, Hand, Jump, Label, Back}
 use Rattle.rv_flat.specs.Parts.{gathered, instruction_labels, times, HasItsLabels}
-use Rattle.rv_frames.specs.Frames.{is_label, place_of_label}
+use Rattle.rv_flat.specs.Flow.{is_label, place_of_label}
+use Rattle.rv_frames.specs.Frames.{}
 
 -- what holds of each label holds of the one at a place
 labels_behind : (P : ℕ → Type 0) (i : Instruction) (is : List Instruction) → All P (gathered instruction_labels (i ∷ is)) → All P (gathered instruction_labels is)
 labels_behind P (Plain p) is h = h
+labels_behind P (Guarded p x) is h = h
+labels_behind P (Open mark) is h = h
 labels_behind P (Branch relation left right label) is h = h
 labels_behind P (Within value range label) is h = h
 labels_behind P (Hand to from) is h = h
@@ -29,6 +32,8 @@ one_if b = if b then 1 else 0
 
 times_first : (label : ℕ) (i : Instruction) (is : List Instruction) → times label (i ∷ is) ≡ one_if (is_label label i) + times label is
 times_first label (Plain p) is = omega arith
+times_first label (Guarded p h) is = omega arith
+times_first label (Open mark) is = omega arith
 times_first label (Branch relation left right target) is = omega arith
 times_first label (Within value range target) is = omega arith
 times_first label (Hand to from) is = omega arith

@@ -4,18 +4,16 @@ use Rattle.std.specs.Prelude.{slice_get}
 use Rattle.std.proofs.lemmas.Bool.{cases_lt}
 use Rattle.rv_image.specs.Streams.{World}
 use Rattle.ir_form.specs.declared.plain.Plain.{Plain as PlainOp}
-use Rattle.ir_form.specs.declared.plain.Plain.TheVariants.{Constant, Global, Heap, Frame, Text, Compute, Load, Store, Ask, Call, Raise, Take, Give}
+use Rattle.ir_form.specs.declared.plain.Plain.TheVariants.{Constant, Global, Heap, Frame, Text, Compute, Load, Store, Ask, Call, Raise, Throw, Take, Give}
 use Rattle.ir_form.specs.Place.{Setting}
 use Rattle.ir_form.specs.State.{Verdict}
-use Rattle.ir_form.specs.Cost.{plain_price}
 use Rattle.rv_flat.specs.declared.linear.Instruction.{Instruction}
-use Rattle.rv_flat.specs.declared.linear.Instruction.TheVariants.{Plain, Branch, Within, Hand, Jump, Label, Back}
+use Rattle.rv_flat.specs.declared.linear.Instruction.TheVariants.{Plain, Guarded, Open, Branch, Within, Hand, Jump, Label, Back}
 use Rattle.rv_flat.specs.declared.linear.LinearRoutine.{LinearRoutine}
 use Rattle.rv_flat.specs.declared.linear.Linear.{Linear}
-use Rattle.rv_flat.specs.Linear.{price}
-use Rattle.rv_frames.specs.Frames.{Machine, Running, Halted, tick, ticks, price_of, price_in, price_at, spent}
+use Rattle.rv_frames.specs.Frames.{Machine, Running, Halted, tick, ticks, price_of, price_in, price_at, spent, tick_price, instruction_price, Unwinding, Taking}
 
-plain_costs : (p : PlainOp) → 1 ≤ plain_price p
+plain_costs : (p : PlainOp) → 1 ≤ tick_price p
 plain_costs (Constant to word) = omega arith
 plain_costs (Global to word) = omega arith
 plain_costs (Heap to) = omega arith
@@ -27,11 +25,14 @@ plain_costs (Store width at from) = omega arith
 plain_costs (Ask to service) = omega arith
 plain_costs (Call routine arguments to line) = omega arith
 plain_costs (Raise kind line) = omega arith
+plain_costs (Throw kind line) = omega arith
 plain_costs (Take to words line) = omega arith
 plain_costs (Give words) = omega arith
 
-costs : (i : Instruction) → 1 ≤ price i
+costs : (i : Instruction) → 1 ≤ instruction_price i
 costs (Plain p) = plain_costs p
+costs (Guarded p h) = plain_costs p
+costs (Open mark) = omega arith
 costs (Branch relation left right label) = omega arith
 costs (Within value range label) = omega arith
 costs (Hand to from) = omega arith
@@ -50,6 +51,8 @@ costs_in (Some r) place = costs_of (slice_get r.code place)
 -- a tick is not for nothing
 pub tick_costs : (l : Linear) (m : Machine) → 1 ≤ price_at l m
 tick_costs l (Running routine place state callers) = costs_in (slice_get l.routines routine) place
+tick_costs l (Unwinding routine kind line state callers) = omega arith
+tick_costs l (Taking routine h kind line state callers) = omega arith
 tick_costs l (Halted verdict w) = omega arith
 
 pub ticks_add : (g : Setting) (l : Linear) (a b : ℕ) (m : Machine) → ticks g l (a + b) m ≡ ticks g l b (ticks g l a m)

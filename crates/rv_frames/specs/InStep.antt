@@ -1,17 +1,18 @@
 -- A run of instructions that keeps step with the machine, against what linear code means.
-use Rattle.std.specs.Prelude.{◌≡◌, ◌≢◌, ℕ, ◌+◌, ◌≤◌, List}
+use Rattle.std.specs.Prelude.{◌≡◌, ◌≢◌, ◌⊎◌, ℕ, ◌+◌, ◌≤◌, List}
 use Rattle.rv_isa.specs.declared.service.FaultKind.{FaultKind}
 use Rattle.rv_isa.specs.Step.{Cpu}
 use Rattle.rv_image.specs.Streams.{Folder, World, Over, AtItsEnd, StoppedBy}
 use Rattle.rv_runs.specs.Moments.{Ground, Moment, Live, Finished, Broken, later, Comes}
-use Rattle.rv_runs.specs.Laws.{Grows, world_at}
+use Rattle.tu_base.specs.Prefix.{IsPrefix}
+use Rattle.rv_runs.specs.Laws.{world_at}
 use Rattle.ir_form.specs.Place.{Place, Setting}
 use Rattle.ir_form.specs.State.{Verdict, Ended, Stopped, Going, Stuck}
 use Rattle.ir_form.specs.Plain.{verdict_of}
 use Rattle.ir_form.specs.Units.{Meant, setting_of}
 use Rattle.rv_flat.specs.declared.linear.Linear.{Linear}
 use Rattle.rv_flat.specs.Units.{linear_meaning}
-use Rattle.rv_frames.specs.Frames.{Machine, Running, Halted, ticks, spent, first}
+use Rattle.rv_frames.specs.Frames.{Machine, Running, Unwinding, Taking, Halted, all_kept, ticks, spent, first}
 use Rattle.rv_frames.specs.Follows.{HasAllLabels}
 use Rattle.rv_frames.specs.Agrees.{IsMeant}
 
@@ -27,9 +28,11 @@ IsOverSo (Stopped kind line) w x = x ≡ Finished (StoppedBy kind line) w
 IsOverSo Going w x = Unit {0}
 IsOverSo Stuck w x = Unit {0}
 
--- instructions stand as the machine does
+-- Instructions stand as the machine does. Where nothing takes an exception they may be over as soon as it is raised.
 abbrev pub StandsAs : Machine → Moment → Type 0
 StandsAs (Running routine place state callers) x = IsLive state.world x
+StandsAs (Unwinding routine kind line state callers) x = IsLive state.world x ⊎ (x ≡ Finished (StoppedBy kind line) (all_kept state.world))
+StandsAs (Taking routine h kind line state callers) x = IsLive state.world x
 StandsAs (Halted how w) x = IsOverSo how w x
 
 -- After each number of ticks instructions stand as the machine does. There were no fewer of them than ticks, and at most as many as the ticks
@@ -45,8 +48,8 @@ pub record RunsAsMeant (extra n : ℕ) (meant : (t s : ℕ) → Meant) (x : Mome
   -- they go on only where what is meant is not over at a cost for which they are enough
   pub spent : (c : Cpu) (w : World) → x ≡ Live c w → (t s : ℕ) → (meant t s).cost + extra ≤ n → (meant t s).verdict ≡ Going
   -- they do nothing else than what is meant, and hold back nothing for which they are enough
-  pub nothing_else : (s : ℕ) → n ≤ s → Grows (world_at x).trace (meant n s).trace
-  pub nothing_held_back : (t s : ℕ) → (meant t s).cost + extra ≤ n → Grows (meant t s).trace (world_at x).trace
+  pub nothing_else : (s : ℕ) → n ≤ s → IsPrefix (world_at x).trace (meant n s).trace
+  pub nothing_held_back : (t s : ℕ) → (meant t s).cost + extra ≤ n → IsPrefix (meant t s).trace (world_at x).trace
 
 -- what keeps step with the machine does what linear code means
 abbrev pub StepsAreMeant : Type 0

@@ -1,5 +1,5 @@
 -- Where a machine asks for a service.
-use Rattle.std.proofs.Common.{◌≡◌, ℕ, zero, suc, ◌+◌, ◌%◌, ◌<◌, ◌≤◌, Bool, true, false, cond, eqb, leb, ◌&&◌, Option, Some, None, refl, arith, sym, subst}
+use Rattle.std.proofs.Common.{◌≡◌, ℕ, zero, suc, ◌+◌, ◌%◌, ◌<◌, ◌≤◌, Bool, true, false, cond, eqb, leb, ◌&&◌, Option, Some, None, refl, arith, ap, sym, ◌∙◌, subst}
 use Rattle.std.specs.Prelude.{IfSome}
 use Rattle.std.proofs.lemmas.Bool.{leb-true, and_parts}
 use Rattle.rv_isa.specs.declared.instr.Instr.{Instr}
@@ -12,7 +12,7 @@ use Rattle.rv_isa.specs.declared.service.Service.TheVariants.{End, Stop, PutCons
 use Rattle.rv_isa.specs.Encoding.{decoding}
 use Rattle.rv_isa.specs.Memory.{load_size, store_size, loaded, stored}
 use Rattle.rv_isa.specs.Step.{Registers, Cpu, Space, Outcome, Goes, Asks, Faults, register, text_end, lies, gives, loads_at, stores_at, lends, accepted, asked, asks, execute, fetched, performs, executes, step}
-use Rattle.rv_image.specs.Steps.{Paused, Asking, onward, steps}
+use Rattle.rv_image.specs.Steps.{Rest, Paused, Asking, onward, steps}
 use Rattle.rv_host.specs.Served.{HasKind}
 
 -- a service that is asked for has a kind that there is
@@ -108,17 +108,25 @@ step_well : (s : Space) (c : Cpu) → AsksWell (step s c)
 unfolding step
 step_well s c = executes_well s (fetched s c.pc) c
 
--- The machine asks for a service after some instructions, and so it does where it is allowed others behind them.
+-- a machine is paused after so many instructions
+pub record IsPaused (rest : Rest) (count : ℕ) : Type 0 where
+  pub at : Cpu
+  pub is : rest ≡ Paused count at
+
+-- The machine asks for a service after some instructions, and so it does where it is allowed others behind them. Where it is allowed fewer, it
+-- is paused after those.
 pub record HasAsked (s : Space) (k : ℕ) (c : Cpu) (what : Service) (count : ℕ) (to : Cpu) : Type 0 where
   pub later : k < count
   pub kind : HasKind what
   pub again : (m : ℕ) → count ≤ k + m → steps s m k c ≡ Asking what count to
+  pub before : (m : ℕ) → k + m < count → IsPaused (steps s m k c) (k + m)
 
 -- the same of the first instruction's outcome
 record CameToAsk (s : Space) (k : ℕ) (o : Outcome) (what : Service) (count : ℕ) (to : Cpu) : Type 0 where
   later : k < count
   kind : HasKind what
   again : (m : ℕ) → count ≤ k + suc m → onward (steps s m (k + 1)) k o ≡ Asking what count to
+  before : (m : ℕ) → k + suc m < count → IsPaused (onward (steps s m (k + 1)) k o) (k + suc m)
 
 one : (s : Space) (n k : ℕ) (o : Outcome) (what : Service) (count : ℕ) (to : Cpu) → AsksWell o →
     ((c : Cpu) → Asking what count to ≡ steps s n (k + 1) c → HasAsked s (k + 1) c what count to) →
@@ -129,6 +137,10 @@ one s n k (Goes at) what count to well next is =
       later = let l : k + 1 < count = r.later in omega arith;
       kind = r.kind;
       again = λ m l. r.again m (omega arith);
+      before = λ m l.
+          let p = r.before m (omega arith) in
+          let e : k + 1 + m ≡ k + suc m = omega arith in
+          record { at = p.at; is = p.is ∙ ap (λ n. Paused n p.at) e };
     }
 one s n k (Asks which at) what count to well next is =
     let same : which ≡ what = cc in
@@ -137,6 +149,7 @@ one s n k (Asks which at) what count to well next is =
       later = omega arith;
       kind = subst HasKind same well;
       again = λ m l. sym is;
+      before = λ m l. absurd (omega (arith, counted, l));
     }
 one s n k (Faults why at) what count to well next is = absurd cc
 
@@ -146,13 +159,18 @@ unfolding steps
 again_at s k c what count to came zero h = let l : k < count = came.later in absurd (omega arith)
 again_at s k c what count to came (suc m) h = came.again m h
 
+before_at : (s : Space) (k : ℕ) (c : Cpu) (what : Service) (count : ℕ) (to : Cpu) → CameToAsk s k (step s c) what count to → (m : ℕ) → k + m < count → IsPaused (steps s m k c) (k + m)
+unfolding steps
+before_at s k c what count to came zero l = let e : k ≡ k + 0 = omega arith in record { at = c; is = ap (λ n. Paused n c) e }
+before_at s k c what count to came (suc m) l = came.before m l
+
 pub has_asked : (s : Space) (n k : ℕ) (c : Cpu) (what : Service) (count : ℕ) (to : Cpu) → Asking what count to ≡ steps s n k c → HasAsked s k c what count to
 unfolding steps
 has_asked s zero k c what count to is = absurd cc
 has_asked s (suc n) k c what count to is =
     let came : CameToAsk s k (step s c) what count to =
     one s n k (step s c) what count to (step_well s c) (λ d i. has_asked s n (k + 1) d what count to i) is in
-    record { later = came.later; kind = came.kind; again = again_at s k c what count to came }
+    record { later = came.later; kind = came.kind; again = again_at s k c what count to came; before = before_at s k c what count to came }
 
 paused_one : (s : Space) (n k : ℕ) (o : Outcome) (count : ℕ) (at : Cpu) → ((c : Cpu) → Paused count at ≡ steps s n (k + 1) c → count ≡ k + 1 + n) →
     Paused count at ≡ onward (steps s n (k + 1)) k o → count ≡ k + suc n

@@ -1,5 +1,5 @@
 -- The services on streams.
-use Rattle.std.proofs.Common.{◌≡◌, ◌≢◌, ℕ, zero, suc, ◌+◌, ◌-◌, List, [], ◌∷◌, ◌++◌, length, take, replicate, Bool, true, false, cond, Option, Some, None, refl, arith, ap, sym, ◌∙◌, subst}
+use Rattle.std.proofs.Common.{◌≡◌, ◌≢◌, ℕ, zero, suc, ◌+◌, ◌-◌, ◌<◌, List, [], ◌∷◌, ◌++◌, length, take, replicate, Bool, true, false, cond, Option, Some, None, refl, arith, ap, sym, ◌∙◌, subst}
 use Rattle.std.specs.Prelude.{Result, slice_get, slice_set, nat_le, ◌==◌, ◌&&◌, not}
 use Rattle.std.specs.List.{list_any}
 use Rattle.std.specs.FinMap as finite
@@ -11,16 +11,16 @@ use Rattle.rv_isa.specs.declared.service.Service.{Service}
 use Rattle.rv_isa.specs.declared.service.Service.TheVariants.{Open}
 use Rattle.rv_isa.specs.Memory.{Memory}
 use Rattle.rv_machine.specs.Device.{lends}
-use Rattle.rv_image.specs.Streams.{Holding, Stream, Free, Reading, Writing, World, Over, Served, Finishes, Replies, traced, stream, with_stream, kept, is_file_name, is_named, free_stream, reads, opens_at, opens, closes, puts, gets, no_byte, bytes_at, served}
+use Rattle.rv_image.specs.Streams.{Holding, Stream, Free, Reading, Writing, World, Over, Served, Finishes, Replies, traced, stream, with_stream, kept, taken, is_file_name, is_named, free_stream, reads, opens_at, opens, closes, puts, gets, no_byte, bytes_at, served}
 use Rattle.rv_host.specs.Told.{ShowsPart}
 use Rattle.rv_host.specs.Slots.{stream_at, placed, Comes, with_trace, HasPartOf, next_byte, after_next, put_answer, after_put}
-use Rattle.rv_host.specs.Served.{Seen, seen, Tells, IsClosed, IsServed, IsCut, Serves, served_as, world_of, reading_of, opened_of}
+use Rattle.rv_host.specs.Served.{Seen, seen, ShowsWorld, IsClosed, IsServed, IsCut, Serves, served_as, world_of, reading_of, opened_of}
 use Rattle.rv_host.specs.declared.service.Reply.{Reply}
 use Rattle.rv_host.specs.declared.service.Reply.TheVariants.{Word}
 use Rattle.rv_host.specs.declared.service.ServiceError.{ServiceError}
 use Rattle.rv_host.proofs.SlotLemmas.{placed_same}
 use Rattle.rv_host.proofs.Keeping.{with_no_trace}
-use Rattle.rv_host.proofs.Telling.{nothing_more, tells_more, part_more, part_none, part_all}
+use Rattle.rv_host.proofs.Telling.{nothing_more, tells_more, part_more, part_none, part_all, byte_taken}
 
 stream_is : (w : World) (n : ℕ) → stream_at w.streams n ≡ stream w n
 stream_is w zero = refl
@@ -69,7 +69,7 @@ silent : (told : Option (List Event)) (trace : Trace) → events_of trace ≡ []
 silent told trace none = nothing_more told ∙ ap (with_more told) (sym none)
 
 pub finish_served : (reply : Reply) (how : Over) (stands : (w : World) → Finishes how w ≡ served_as reply w) (left : Option (List ℕ)) (eo : Option (List Event)) (fo fn : Option Files)
-    (streams : List Stream) (w : World) (events : List Event) (files : Files) → Tells events files (seen left eo fo streams) w → fn ≡ with_trace fo (kept streams) →
+    (streams : List Stream) (w : World) (events : List Event) (files : Files) → ShowsWorld events files (seen left eo fo streams) w → fn ≡ with_trace fo (kept streams) →
     IsServed reply (Finishes how (traced w (kept w.streams))) events files (seen left eo fn streams)
 finish_served reply how stands left eo fo fn streams w events files tells kept_are = record {
   world = traced w (kept w.streams);
@@ -80,7 +80,7 @@ finish_served reply how stands left eo fo fn streams w events files tells kept_a
 }
 
 pub finish_cut : (error : ServiceError) (how : Over) (left : Option (List ℕ)) (eo : Option (List Event)) (fo fn : Option Files) (streams : List Stream) (w : World)
-    (events : List Event) (files : Files) → Tells events files (seen left eo fo streams) w → HasPartOf fo fn (kept streams) → streams ≢ replicate 10 Free →
+    (events : List Event) (files : Files) → ShowsWorld events files (seen left eo fo streams) w → HasPartOf fo fn (kept streams) → streams ≢ replicate 10 Free →
     IsCut error w (Finishes how (traced w (kept w.streams))) events files (record { left = left; events = eo; files = fn })
 finish_cut error how left eo fo fn streams w events files tells part open_ones = record {
   part =
@@ -102,7 +102,7 @@ with_freed w streams n s same is used =
     ap (λ l. placed l n Free) same ∙ placed_above w.streams n s Free (is ∙ sym (stream_is w n)) used
 
 pub close_free : (n : ℕ) (left : Option (List ℕ)) (eo : Option (List Event)) (fo : Option Files) (old new : List Stream) (w : World) (events : List Event) (files : Files) →
-    Tells events files (seen left eo fo old) w → Free ≡ stream_at old n → new ≡ placed old n Free →
+    ShowsWorld events files (seen left eo fo old) w → Free ≡ stream_at old n → new ≡ placed old n Free →
     IsServed (Word 1) (closes w n (stream w n)) events files (seen left eo fo new)
 close_free n left eo fo old new w events files tells free placed_is = record {
   world = w;
@@ -111,7 +111,7 @@ close_free n left eo fo old new w events files tells free placed_is = record {
 }
 
 close_at : (n : ℕ) (s : Stream) (left : Option (List ℕ)) (eo : Option (List Event)) (fo fn : Option Files) (old new : List Stream) (w : World) (events : List Event) (files : Files) →
-    Tells events files (seen left eo fo old) w → s ≡ stream w n → s ≢ Free → new ≡ placed old n Free → fn ≡ with_trace fo (kept (s ∷ [])) →
+    ShowsWorld events files (seen left eo fo old) w → s ≡ stream w n → s ≢ Free → new ≡ placed old n Free → fn ≡ with_trace fo (kept (s ∷ [])) →
     IsServed (Word 0) (closes w n s) events files (seen left eo fn new)
 close_at n Free left eo fo fn old new w events files tells is used placed_is kept_is = absurd (used refl)
 close_at n (Reading name rest_of) left eo fo fn old new w events files tells is used placed_is kept_is = record {
@@ -132,15 +132,15 @@ close_at n (Writing name contents) left eo fo fn old new w events files tells is
 }
 
 pub close_served : (n : ℕ) (s : Stream) (left : Option (List ℕ)) (eo : Option (List Event)) (fo fn : Option Files) (old new : List Stream) (w : World) (events : List Event) (files : Files) →
-    Tells events files (seen left eo fo old) w → s ≡ stream_at old n → s ≢ Free → new ≡ placed old n Free → fn ≡ with_trace fo (kept (s ∷ [])) →
+    ShowsWorld events files (seen left eo fo old) w → s ≡ stream_at old n → s ≢ Free → new ≡ placed old n Free → fn ≡ with_trace fo (kept (s ∷ [])) →
     IsServed (Word 0) (closes w n (stream w n)) events files (seen left eo fn new)
 close_served n s left eo fo fn old new w events files tells is used placed_is kept_is =
     let here : s ≡ stream w n = is ∙ at_world w old n tells.streams in
     let P : Stream → Type 0 = λ x. IsServed (Word 0) (closes w n x) events files (seen left eo fn new) in
     subst P here (close_at n s left eo fo fn old new w events files tells here used placed_is kept_is)
 
-close_part : (n : ℕ) (s : Stream) (before : Seen) (w : World) (events : List Event) (files : Files) → Tells events files before w →
-    ShowsPart events files (world_of (closes w n s)).trace before.told
+close_part : (n : ℕ) (s : Stream) (before : Seen) (w : World) (events : List Event) (files : Files) → ShowsWorld events files before w →
+    ShowsPart events files w.trace (world_of (closes w n s)).trace before.told
 close_part n Free before w events files tells = part_all events files before w w.trace tells refl
 close_part n (Reading name left) before w events files tells = part_all events files before w w.trace tells refl
 close_part n (Writing name contents) before w events files tells = part_none events files before w (Keep name contents ∷ []) tells
@@ -151,13 +151,13 @@ close_opened n (Reading name left) w = refl
 close_opened n (Writing name contents) w = refl
 
 pub close_cut : (error : ServiceError) (n : ℕ) (s : Stream) (left : Option (List ℕ)) (eo : Option (List Event)) (fo fn : Option Files) (old : List Stream) (w : World)
-    (events : List Event) (files : Files) → Tells events files (seen left eo fo old) w → s ≡ stream_at old n → s ≢ Free → fn ≡ fo →
+    (events : List Event) (files : Files) → ShowsWorld events files (seen left eo fo old) w → s ≡ stream_at old n → s ≢ Free → fn ≡ fo →
     IsCut error w (closes w n (stream w n)) events files (record { left = left; events = eo; files = fn })
 close_cut error n s left eo fo fn old w events files tells is used same =
-    let p : ShowsPart events files (world_of (closes w n (stream w n))).trace (record { left = left; events = eo; files = fo }) =
+    let p : ShowsPart events files w.trace (world_of (closes w n (stream w n))).trace (record { left = left; events = eo; files = fo }) =
     close_part n (stream w n) (seen left eo fo old) w events files tells in
     record {
-      part = record { count = p.count; part = record { done = p.part.done; kept = same ∙ p.part.kept } };
+      part = record { done = p.done; shows = record { done = p.shows.done; kept = same ∙ p.shows.kept }; nothing_held_back = p.nothing_held_back; nothing_else = p.nothing_else };
       opened = λ _ closed. close_opened n (stream w n) w ∙ opened_at w n closed (λ free. used (is ∙ at_world w old n tells.streams ∙ free));
     }
 
@@ -201,7 +201,7 @@ put_keeps f w n bytes (Writing name contents) same =
     (same (Writing name (contents ++ bytes))) refl
 
 pub put_cut : (error : ServiceError) (n : ℕ) (bytes : List ℕ) (left : Option (List ℕ)) (eo : Option (List Event)) (fo : Option Files) (old : List Stream) (w : World)
-    (events : List Event) (files : Files) → Tells events files (seen left eo fo old) w → stream_at old n ≢ Free →
+    (events : List Event) (files : Files) → ShowsWorld events files (seen left eo fo old) w → stream_at old n ≢ Free →
     IsCut error w (puts w n bytes (stream w n)) events files (record { left = left; events = eo; files = fo })
 put_cut error n bytes left eo fo old w events files tells used = record {
   part = part_all events files (seen left eo fo old) w _ tells (sym (put_keeps (λ v. v.trace) w n bytes (stream w n) (λ _. refl)));
@@ -212,14 +212,14 @@ put_cut error n bytes left eo fo old w events files tells used = record {
 
 word_of : Option ℕ → ℕ
 word_of None = no_byte
-word_of (Some byte) = byte
+word_of (Some byte) = taken byte
 
 get_at : (w : World) (n : ℕ) (s : Stream) → s ≡ stream w n → gets w n s ≡ Replies (word_of (next_byte s)) (record w { streams = placed w.streams n (after_next s) })
 unfolding word_of
 get_at w n Free is = unchanged w n no_byte Free is
 get_at w n (Reading name []) is = unchanged w n no_byte (Reading name []) is
 get_at w n (Reading name (byte ∷ left)) is =
-    ap (λ l. Replies byte (record w { streams = l }))
+    ap (λ l. Replies (taken byte) (record w { streams = l }))
     (sym (placed_above w.streams n (Reading name (byte ∷ left)) (Reading name left) (is ∙ sym (stream_is w n)) (λ free. absurd cc)))
 get_at w n (Writing name contents) is = unchanged w n no_byte (Writing name contents) is
 
@@ -233,10 +233,11 @@ get_comes n byte old new byte_is new_is w same =
     ∙ ap (λ b. Replies (word_of b) (record w { streams = placed old n (after_next (stream_at old n)) })) (sym byte_is)
     ∙ ap (λ l. Replies (word_of byte) (record w { streams = l })) (sym new_is)
 
-pub get_byte_comes : (n byte : ℕ) (old new : List Stream) → Some byte ≡ next_byte (stream_at old n) → new ≡ placed old n (after_next (stream_at old n)) →
+pub get_byte_comes : (n byte : ℕ) (old new : List Stream) → byte < 256 → Some byte ≡ next_byte (stream_at old n) → new ≡ placed old n (after_next (stream_at old n)) →
     Comes (λ w. gets w n (stream w n)) byte old new
 unfolding word_of
-get_byte_comes n byte old new byte_is new_is = get_comes n (Some byte) old new byte_is new_is
+get_byte_comes n byte old new small byte_is new_is =
+    subst (λ b. Comes (λ w. gets w n (stream w n)) b old new) (byte_taken byte small) (get_comes n (Some byte) old new byte_is new_is)
 
 pub get_none_comes : (n : ℕ) (old new : List Stream) → None ≡ next_byte (stream_at old n) → new ≡ placed old n (after_next (stream_at old n)) →
     Comes (λ w. gets w n (stream w n)) 4294967295 old new
@@ -289,13 +290,13 @@ asked_to w = record { left = w.left; trace = w.trace; streams = w.streams; opene
 
 -- nothing was done
 pub open_cut : (error : ServiceError) (name : List ℕ) (mode : ℕ) (left : Option (List ℕ)) (eo : Option (List Event)) (fo fn : Option Files) (old : List Stream) (w : World)
-    (events : List Event) (files : Files) → Tells events files (seen left eo fo old) w → fn ≡ fo →
+    (events : List Event) (files : Files) → ShowsWorld events files (seen left eo fo old) w → fn ≡ fo →
     IsCut error w (opens (Holding files) (record w { opened = true }) name mode) events files (record { left = left; events = eo; files = fn })
 open_cut error name mode left eo fo fn old w events files tells same =
-    let p : ShowsPart events files (world_of (opens (Holding files) (asked_to w) name mode)).trace (record { left = left; events = eo; files = fo }) =
+    let p : ShowsPart events files w.trace (world_of (opens (Holding files) (asked_to w) name mode)).trace (record { left = left; events = eo; files = fo }) =
     part_all events files (seen left eo fo old) w _ tells (sym (opens_keeps (λ v. v.trace) files (asked_to w) name mode (λ _ _. refl))) in
     record {
-      part = record { count = p.count; part = record { done = p.part.done; kept = same ∙ p.part.kept } };
+      part = record { done = p.done; shows = record { done = p.shows.done; kept = same ∙ p.shows.kept }; nothing_held_back = p.nothing_held_back; nothing_else = p.nothing_else };
       opened = λ _ closed. opens_keeps (λ v. v.opened) files (asked_to w) name mode (λ _ _. refl);
     }
 

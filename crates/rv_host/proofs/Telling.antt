@@ -1,16 +1,16 @@
 -- What console, cabinet and streams hold after a service.
-use Rattle.std.proofs.Common.{◌≡◌, ℕ, zero, suc, ◌+◌, List, [], ◌∷◌, ◌++◌, length, map, take, Bool, Option, Some, None, refl, ap, sym, ◌∙◌, subst, append_assoc, append-nil}
-use Rattle.std.proofs.Math.Seq.{take-append-add, take-length}
+use Rattle.std.proofs.Common.{◌≡◌, ℕ, zero, suc, List, [], ◌∷◌, ◌++◌, ◌<◌, map, take, drop, Bool, Option, Some, None, refl, arith, ap, sym, ◌∙◌, append_assoc, append-nil}
+use Rattle.std.proofs.lemmas.List.{take-append-drop}
 use Rattle.tu_base.specs.Files.{Files}
 use Rattle.tu_base.specs.Trace.{Put, Got, AtEnd, Keep, Trace, events_of, files_of}
 use Rattle.tu_base.specs.declared.event.Event.{Event}
 use Rattle.tu_base.specs.declared.event.Event.TheVariants.{Put as event_put}
 use Rattle.tu_outside.specs.Told.{with_more, HasSomeOf}
 use Rattle.tu_outside.specs.Events.{puts, got as got_events, Takes}
-use Rattle.rv_image.specs.Streams.{Stream, World, Served, Replies, traced, got}
+use Rattle.rv_image.specs.Streams.{Stream, World, Served, Replies, traced, taken, got}
 use Rattle.rv_host.specs.Told.{Told, ShowsTrace, ShowsPart}
 use Rattle.rv_host.specs.Slots.{Comes, with_trace}
-use Rattle.rv_host.specs.Served.{Seen, seen, Tells, IsServed, IsCut, world_of}
+use Rattle.rv_host.specs.Served.{Seen, seen, ShowsWorld, IsServed, IsCut, world_of}
 use Rattle.rv_host.specs.declared.service.Reply.TheVariants.{Word}
 use Rattle.rv_host.specs.declared.service.ServiceError.TheVariants.{Console}
 use Rattle.rv_host.proofs.Keeping.{files_append, with_no_trace}
@@ -37,39 +37,42 @@ shows_more events files trace more old new shows events_are files_are = record {
 }
 
 pub tells_more : (events : List Event) (files : Files) (before after : Seen) (w : World) (more : Trace) (left : List ℕ) (streams : List Stream) (opened : Bool) →
-    Tells events files before w → after.told.left ≡ Some left → after.told.events ≡ with_more before.told.events (events_of more) →
+    ShowsWorld events files before w → after.told.left ≡ Some left → after.told.events ≡ with_more before.told.events (events_of more) →
     after.told.files ≡ with_trace before.told.files more → after.streams ≡ streams →
-    Tells events files after (record { left = left; trace = w.trace ++ more; streams = streams; opened = opened })
+    ShowsWorld events files after (record { left = left; trace = w.trace ++ more; streams = streams; opened = opened })
 tells_more events files before after w more left streams opened tells left_is events_are files_are streams_are = record {
   input = left_is;
   shows = shows_more events files w.trace more before.told after.told tells.shows events_are files_are;
   streams = streams_are;
 }
 
-pub part_more : (events : List Event) (files : Files) (before : Seen) (told : Told) (w : World) (more : Trace) (k : ℕ) → Tells events files before w →
+pub part_more : (events : List Event) (files : Files) (before : Seen) (told : Told) (w : World) (more : Trace) (k : ℕ) → ShowsWorld events files before w →
     told.events ≡ with_more before.told.events (events_of (take k more)) → told.files ≡ with_trace before.told.files (take k more) →
-    ShowsPart events files (w.trace ++ more) told
-part_more events files before told w more k tells events_are files_are =
-    let P : Trace → Type 0 = λ t. ShowsTrace events files t told in
-    record {
-      count = length w.trace + k;
-      part = subst P (sym (take-append-add w.trace more k)) (shows_more events files w.trace (take k more) before.told told tells.shows events_are files_are);
-    }
+    ShowsPart events files w.trace (w.trace ++ more) told
+part_more events files before told w more k tells events_are files_are = record {
+  done = w.trace ++ take k more;
+  shows = shows_more events files w.trace (take k more) before.told told tells.shows events_are files_are;
+  nothing_held_back = record { rest = take k more; is = refl };
+  nothing_else = record { rest = drop k more; is = ap (λ l. w.trace ++ l) (sym (take-append-drop k more)) ∙ sym (append_assoc w.trace (take k more) (drop k more)) };
+}
 
 -- all of the trace so far, where nothing was done
-pub part_all : (events : List Event) (files : Files) (before : Seen) (w : World) (trace : Trace) → Tells events files before w → w.trace ≡ trace →
-    ShowsPart events files trace before.told
-part_all events files before w trace tells same =
-    let P : Trace → Type 0 = λ t. ShowsTrace events files t before.told in
-    record { count = length trace; part = subst P (same ∙ sym (take-length trace)) tells.shows }
+pub part_all : (events : List Event) (files : Files) (before : Seen) (w : World) (trace : Trace) → ShowsWorld events files before w → w.trace ≡ trace →
+    ShowsPart events files w.trace trace before.told
+part_all events files before w trace tells same = record {
+  done = w.trace;
+  shows = tells.shows;
+  nothing_held_back = record { rest = []; is = sym (append-nil w.trace) };
+  nothing_else = record { rest = []; is = sym same ∙ sym (append-nil w.trace) };
+}
 
 -- none of what was to be done
-pub part_none : (events : List Event) (files : Files) (before : Seen) (w : World) (more : Trace) → Tells events files before w → ShowsPart events files (w.trace ++ more) before.told
+pub part_none : (events : List Event) (files : Files) (before : Seen) (w : World) (more : Trace) → ShowsWorld events files before w → ShowsPart events files w.trace (w.trace ++ more) before.told
 part_none events files before w more tells = part_more events files before before.told w more 0 tells (nothing_more before.told.events) (with_no_trace before.told.files)
 
 -- a word that streams come to
 pub comes_served : (service : World → Served) (reply : ℕ) (old new : List Stream) (left : Option (List ℕ)) (eo : Option (List Event)) (fo : Option Files) →
-    Comes service reply old new → (w : World) (events : List Event) (files : Files) → Tells events files (seen left eo fo old) w →
+    Comes service reply old new → (w : World) (events : List Event) (files : Files) → ShowsWorld events files (seen left eo fo old) w →
     IsServed (Word reply) (service w) events files (seen left eo fo new)
 comes_served service reply old new left eo fo comes w events files tells = record {
   world = record { left = w.left; trace = w.trace; streams = new; opened = w.opened };
@@ -102,7 +105,7 @@ told_same None trace same = refl
 told_same (Some files) trace same = ap Some (same files)
 
 pub put_served : (events : List Event) (files : Files) (w : World) (bytes : List ℕ) (lo ln : Option (List ℕ)) (eo en : Option (List Event)) (fo : Option Files) (streams : List Stream) →
-    Tells events files (seen lo eo fo streams) w → ln ≡ lo → en ≡ with_more eo (puts bytes) →
+    ShowsWorld events files (seen lo eo fo streams) w → ln ≡ lo → en ≡ with_more eo (puts bytes) →
     IsServed (Word 0) (Replies 0 (traced w (map Put bytes))) events files (seen ln en fo streams)
 put_served events files w bytes lo ln eo en fo streams tells left_is events_are = record {
   world = traced w (map Put bytes);
@@ -113,34 +116,40 @@ put_served events files w bytes lo ln eo en fo streams tells left_is events_are 
 }
 
 pub put_cut : (events : List Event) (files : Files) (w : World) (bytes : List ℕ) (lo ln : Option (List ℕ)) (eo en : Option (List Event)) (fo : Option Files) (streams : List Stream) →
-    Tells events files (seen lo eo fo streams) w → HasSomeOf eo en (puts bytes) →
+    ShowsWorld events files (seen lo eo fo streams) w → HasSomeOf eo en (puts bytes) →
     IsCut Console w (Replies 0 (traced w (map Put bytes))) events files (record { left = ln; events = en; files = fo })
 put_cut events files w bytes lo ln eo en fo streams tells some = record {
   part =
       part_more events files (seen lo eo fo streams) (record { left = ln; events = en; files = fo }) w (map Put bytes) some.count tells
       (some.is ∙ ap (with_more eo) (events_some some.count bytes)) (told_same fo (take some.count (map Put bytes)) (files_some some.count bytes));
-  opened = λ memory. absurd cc;
+  opened = λ other. absurd (other refl);
 }
 
 -- a byte of the console
 
-pub byte_served : (events : List Event) (files : Files) (w : World) (byte : ℕ) (lo ln : Option (List ℕ)) (eo en : Option (List Event)) (fo : Option Files) (streams : List Stream) →
-    Tells events files (seen lo eo fo streams) w → Takes lo (Some byte) ln → en ≡ with_more eo (got_events (Some byte)) →
+-- a byte is taken as it is
+pub byte_taken : (byte : ℕ) → byte < 256 → taken byte ≡ byte
+byte_taken byte small = omega arith
+
+pub byte_served : (events : List Event) (files : Files) (w : World) (byte : ℕ) → byte < 256 → (lo ln : Option (List ℕ)) (eo en : Option (List Event)) (fo : Option Files) (streams : List Stream) →
+    ShowsWorld events files (seen lo eo fo streams) w → Takes lo (Some byte) ln → en ≡ with_more eo (got_events (Some byte)) →
     IsServed (Word byte) (got w w.left) events files (seen ln en fo streams)
-byte_served events files w byte lo None eo en fo streams tells taken events_are = let none : None ≡ Some w.left = sym taken ∙ tells.input in absurd cc
-byte_served events files w byte lo (Some rest) eo en fo streams tells taken events_are =
-    let some : Some (byte ∷ rest) ≡ Some w.left = sym taken ∙ tells.input in
+byte_served events files w byte small lo None eo en fo streams tells takes events_are = let none : None ≡ Some w.left = sym takes ∙ tells.input in absurd cc
+byte_served events files w byte small lo (Some rest) eo en fo streams tells takes events_are =
+    let some : Some (byte ∷ rest) ≡ Some w.left = sym takes ∙ tells.input in
     let is : w.left ≡ byte ∷ rest = cc in
     record {
       world = record { left = rest; trace = w.trace ++ Got byte ∷ []; streams = w.streams; opened = w.opened };
-      is = ap (got w) is;
+      is =
+          ap (got w) is
+          ∙ ap (λ b. Replies b (record { left = rest; trace = w.trace ++ Got b ∷ []; streams = w.streams; opened = w.opened })) (byte_taken byte small);
       told =
           tells_more events files (seen lo eo fo streams) (seen (Some rest) en fo streams) w (Got byte ∷ []) rest w.streams w.opened tells refl events_are
           (told_same fo (Got byte ∷ []) (λ f. refl)) tells.streams;
     }
 
 pub end_served : (events : List Event) (files : Files) (w : World) (lo ln : Option (List ℕ)) (eo en : Option (List Event)) (fo : Option Files) (streams : List Stream) →
-    Tells events files (seen lo eo fo streams) w → Takes lo None ln → en ≡ with_more eo (got_events None) →
+    ShowsWorld events files (seen lo eo fo streams) w → Takes lo None ln → en ≡ with_more eo (got_events None) →
     IsServed (Word 4294967295) (got w w.left) events files (seen ln en fo streams)
 end_served events files w lo ln eo en fo streams tells taken events_are = record {
   world = traced w (AtEnd ∷ []);
@@ -150,15 +159,15 @@ end_served events files w lo ln eo en fo streams tells taken events_are = record
       (told_same fo (AtEnd ∷ []) (λ f. refl)) tells.streams;
 }
 
-get_part : (events : List Event) (files : Files) (w : World) (left : List ℕ) (before : Seen) → Tells events files before w → ShowsPart events files (world_of (got w left)).trace before.told
+get_part : (events : List Event) (files : Files) (w : World) (left : List ℕ) (before : Seen) → ShowsWorld events files before w → ShowsPart events files w.trace (world_of (got w left)).trace before.told
 get_part events files w [] before tells = part_none events files before w (AtEnd ∷ []) tells
-get_part events files w (byte ∷ left) before tells = part_none events files before w (Got byte ∷ []) tells
+get_part events files w (byte ∷ left) before tells = part_none events files before w (Got (taken byte) ∷ []) tells
 
 pub get_cut : (events : List Event) (files : Files) (w : World) (lo ln : Option (List ℕ)) (eo en : Option (List Event)) (fo : Option Files) (streams : List Stream) →
-    Tells events files (seen lo eo fo streams) w → en ≡ eo → IsCut Console w (got w w.left) events files (record { left = ln; events = en; files = fo })
+    ShowsWorld events files (seen lo eo fo streams) w → en ≡ eo → IsCut Console w (got w w.left) events files (record { left = ln; events = en; files = fo })
 get_cut events files w lo ln eo en fo streams tells same =
-    let p : ShowsPart events files (world_of (got w w.left)).trace (record { left = lo; events = eo; files = fo }) = get_part events files w w.left (seen lo eo fo streams) tells in
+    let p : ShowsPart events files w.trace (world_of (got w w.left)).trace (record { left = lo; events = eo; files = fo }) = get_part events files w w.left (seen lo eo fo streams) tells in
     record {
-      part = record { count = p.count; part = record { done = same ∙ p.part.done; kept = p.part.kept } };
-      opened = λ memory. absurd cc;
+      part = record { done = p.done; shows = record { done = same ∙ p.shows.done; kept = p.shows.kept }; nothing_held_back = p.nothing_held_back; nothing_else = p.nothing_else };
+      opened = λ other. absurd (other refl);
     }

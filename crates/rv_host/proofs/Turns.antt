@@ -1,5 +1,5 @@
 -- One turn of the host.
-use Rattle.std.proofs.Common.{◌≡◌, ℕ, ◌+◌, ◌-◌, ◌<◌, ◌≤◌, List, true, replicate, append-nil, Some, None, refl, arith, ap, sym, ◌∙◌, subst}
+use Rattle.std.proofs.Common.{◌≡◌, ◌≢◌, ℕ, ◌+◌, ◌-◌, ◌<◌, ◌≤◌, List, true, replicate, append-nil, Some, None, refl, arith, ap, sym, ◌∙◌, subst}
 use Rattle.tu_base.specs.declared.event.Event.{Event}
 use Rattle.tu_base.specs.Files.{Files}
 use Rattle.rv_isa.specs.declared.service.Service.{Service}
@@ -12,15 +12,15 @@ use Rattle.rv_machine.specs.Lists.{memory_of}
 use Rattle.rv_machine.specs.declared.pause.Pause.TheVariants.{Ask, Paused}
 use Rattle.rv_machine.specs.declared.pause.Pause.{Pause}
 use Rattle.rv_host.specs.Told.{Told, ShowsTrace, ShowsPart}
-use Rattle.rv_host.specs.Served.{Seen, Tells, IsClosed, served_as, IsServed, IsCut, world_of}
+use Rattle.rv_host.specs.Served.{Seen, ShowsWorld, IsClosed, served_as, IsServed, IsCut, world_of}
 use Rattle.rv_host.specs.Host.{run_on, verdict_told, IsWhole, Leaves}
 use Rattle.rv_host.specs.declared.service.Reply.{Reply}
 use Rattle.rv_host.specs.declared.service.Reply.TheVariants.{Word}
 use Rattle.rv_host.specs.declared.service.ServiceError.{ServiceError}
-use Rattle.rv_host.specs.declared.service.ServiceError.TheVariants.{Memory as no_memory}
+use Rattle.rv_host.specs.declared.service.ServiceError.TheVariants.{Console}
 use Rattle.rv_host.specs.declared.host.HostEnd.{HostEnd}
-use Rattle.rv_host.specs.declared.host.HostEnd.TheVariants.{Memory as memory}
-use Rattle.rv_host.proofs.Asking.{HasAsked, has_asked, paused_all}
+use Rattle.rv_host.specs.declared.host.HostEnd.TheVariants.{ConsoleFault as console_fault}
+use Rattle.rv_host.proofs.Asking.{HasAsked, IsPaused, has_asked, paused_all}
 use Rattle.rv_host.proofs.Closed.{stays_closed}
 
 abbrev pub RunsRest : Type 0
@@ -29,7 +29,7 @@ RunsRest = (folder : Folder) (s : Space) (n k : ℕ) (c : Cpu) (w : World) → r
 -- The run goes on from the machine as it is, in a world that is seen.
 pub record IsUnderway (ran : ℕ → Ran) (events : List Event) (files : Files) (d : Device) (now : Seen) : Type 0 where
   pub world : World
-  pub told : Tells events files now world
+  pub told : ShowsWorld events files now world
   pub closed : IsClosed world
   pub goes : (n : ℕ) → d.count ≤ n → run (Holding files) (space_of d) (n - d.count) d.count (cpu_of d) world ≡ ran n
 
@@ -93,7 +93,7 @@ goes_on law ran events files d e f before after what reply u has is_served space
 }
 
 whole_of : (ran : Ran) (verdict : MachineVerdict) (count : ℕ) (w : World) (events : List Event) (files : Files) (now : Seen) →
-    ran ≡ record { verdict = verdict; count = count; world = w } → Tells events files now w → IsWhole ran verdict count events files now.told
+    ran ≡ record { verdict = verdict; count = count; world = w } → ShowsWorld events files now w → IsWhole ran verdict count events files now.told
 whole_of ran verdict count w events files now is tells = record {
   ends = ap (λ (r : Ran). r.verdict) is;
   after = ap (λ (r : Ran). r.count) is;
@@ -102,7 +102,7 @@ whole_of ran verdict count w events files now is tells = record {
 }
 
 pub leaves_whole : (ran : ℕ → Ran) (budget : ℕ) (end : HostEnd) (verdict : MachineVerdict) (count : ℕ) (w : World) (events : List Event) (files : Files) (now : Seen) →
-    verdict_told end ≡ Some verdict → ran budget ≡ record { verdict = verdict; count = count; world = w } → Tells events files now w →
+    verdict_told end ≡ Some verdict → ran budget ≡ record { verdict = verdict; count = count; world = w } → ShowsWorld events files now w →
     Leaves ran budget end count events files now.told
 leaves_whole ran budget end verdict count w events files now told is tells = record {
   whole = λ v is_v.
@@ -110,7 +110,7 @@ leaves_whole ran budget end verdict count w events files now told is tells = rec
       let P : MachineVerdict → Type 0 = λ x. IsWhole (ran budget) x count events files now.told in
       subst P same (whole_of (ran budget) verdict count w events files now is tells);
   broken = λ none. let never : Some verdict ≡ None = sym told ∙ none in absurd cc;
-  opened = λ cut. let never : Some verdict ≡ None = sym told ∙ ap verdict_told cut in absurd cc;
+  opened = λ none. let never : Some verdict ≡ None = sym told ∙ none in absurd cc;
 }
 
 -- after the last service the run is over
@@ -133,9 +133,20 @@ unfolding run
 world_left files s n k c (Finishes how w) none = refl
 world_left files s n k c (Replies reply w) none = rw none refl
 
+-- one instruction before the machine asks for a service, the run is in the world before that service
+one_before : RunsRest → (ran : ℕ → Ran) (events : List Event) (files : Files) (d e : Device) (now : Seen) (what : Service) →
+    (u : IsUnderway ran events files d now) → HasAsked (space_of d) d.count (cpu_of d) what e.count (cpu_of e) → (ran (e.count - 1)).world ≡ u.world
+one_before law ran events files d e now what u has =
+    let past : d.count < e.count = has.later in
+    let n : ℕ = e.count - 1 in
+    let p : IsPaused (steps (space_of d) (n - d.count) d.count (cpu_of d)) (d.count + (n - d.count)) = has.before (n - d.count) (omega arith) in
+    ap (λ (r : Ran). r.world)
+    (sym (u.goes n (omega arith)) ∙ law (Holding files) (space_of d) (n - d.count) d.count (cpu_of d) u.world
+    ∙ ap (rests (Holding files) (space_of d) (d.count + (n - d.count)) u.world) p.is)
+
 -- a service was cut off
 pub leaves_cut : RunsRest → (ran : ℕ → Ran) (budget : ℕ) (end : HostEnd) (error : ServiceError) (events : List Event) (files : Files) (d e : Device) (before : Seen) (told : Told)
-    (what : Service) → verdict_told end ≡ None → (end ≡ memory → error ≡ no_memory) → (u : IsUnderway ran events files d before) →
+    (what : Service) → verdict_told end ≡ None → (end ≢ console_fault → error ≢ Console) → (u : IsUnderway ran events files d before) →
     HasAsked (space_of d) d.count (cpu_of d) what e.count (cpu_of e) →
     IsCut error u.world (served (Holding files) (memory_of e.bytes) what u.world) events files told → Leaves ran budget end e.count events files told
 leaves_cut law ran budget end error events files d e before told what none why u has cut =
@@ -143,10 +154,11 @@ leaves_cut law ran budget end error events files d e before told what none why u
     let left : (ran e.count).world ≡ world_of v =
     ap (λ (r : Ran). r.world) (asked_turn law ran events files d e before what u has e.count (omega arith))
     ∙ world_left files (space_of d) (e.count - e.count) e.count (cpu_of e) v (omega arith) in
-    let P : World → Type 0 = λ w. ShowsPart events files w.trace told in
+    let due : (ran (e.count - 1)).world ≡ u.world = one_before law ran events files d e before what u has in
+    let P : World → World → Type 0 = λ x w. ShowsPart events files x.trace w.trace told in
     let Q : World → Type 0 = λ w. w.opened ≡ true in
     record {
       whole = λ verdict is. let never : None ≡ Some verdict = sym none ∙ is in absurd cc;
-      broken = λ _. subst P (sym left) cut.part;
-      opened = λ is. subst Q (sym left) (cut.opened (why is) u.closed);
+      broken = λ _. subst (λ x. P x (ran e.count).world) (sym due) (subst (P u.world) (sym left) cut.part);
+      opened = λ _ other. subst Q (sym left) (cut.opened (why other) u.closed);
     }

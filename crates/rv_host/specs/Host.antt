@@ -1,5 +1,5 @@
 -- What a run leaves on the machine, at the console and in the cabinet.
-use Rattle.std.specs.Prelude.{◌≡◌, ℕ, true, List, Option, Some, None}
+use Rattle.std.specs.Prelude.{◌≡◌, ◌≢◌, ℕ, ◌-◌, true, List, Option, Some, None}
 use Rattle.tu_base.specs.declared.event.Event.{Event}
 use Rattle.tu_base.specs.Files.{Files}
 use Rattle.tu_base.specs.Kind.{kind_number}
@@ -32,8 +32,9 @@ pub record IsWhole (ran : Ran) (verdict : MachineVerdict) (count : ℕ) (events 
   pub shows : ShowsTrace events files ran.world.trace told
 
 -- What is left is that of the run of as many instructions as the budget. Where the host was cut off, a first part of the trace of the run of the
--- instructions counted stands. Memory runs out only where the program has asked to open a file.
+-- instructions counted stands, with all of the run of one less: only the last instruction, the service that was cut off, may have done less than
+-- it was to do. The cabinet fails and memory runs out only where the program has asked to open a file.
 pub record Leaves (ran : ℕ → Ran) (budget : ℕ) (end : HostEnd) (count : ℕ) (events : List Event) (files : Files) (told : Told) : Type 0 where
   pub whole : (verdict : MachineVerdict) → verdict_told end ≡ Some verdict → IsWhole (ran budget) verdict count events files told
-  pub broken : verdict_told end ≡ None → ShowsPart events files (ran count).world.trace told
-  pub opened : end ≡ memory → (ran count).world.opened ≡ true
+  pub broken : verdict_told end ≡ None → ShowsPart events files (ran (count - 1)).world.trace (ran count).world.trace told
+  pub opened : verdict_told end ≡ None → end ≢ console_fault → (ran count).world.opened ≡ true

@@ -1,5 +1,5 @@
 -- What a host does about a service, and what console, cabinet and streams hold of it.
-use Rattle.std.specs.Prelude.{◌≡◌, ◌≤◌, ℕ, true, false, List, [], length, nat_le, ◌==◌, if◌then◌else◌, replicate, Option, Some, None, Result, Ok, Err}
+use Rattle.std.specs.Prelude.{◌≡◌, ◌≢◌, ◌≤◌, ℕ, true, false, List, [], length, nat_le, ◌==◌, if◌then◌else◌, replicate, Option, Some, None, Result, Ok, Err}
 use Rattle.std.specs.FinMap as finite
 use Rattle.tu_base.specs.declared.limits.TheConstants.{MOST_FILE_BYTES}
 use Rattle.tu_base.specs.declared.event.Event.{Event}
@@ -14,7 +14,7 @@ use Rattle.rv_host.specs.declared.stream.Stream.{Stream as Slot}
 use Rattle.rv_host.specs.declared.service.Reply.{Reply}
 use Rattle.rv_host.specs.declared.service.Reply.TheVariants.{Word, Ended, Stopped}
 use Rattle.rv_host.specs.declared.service.ServiceError.{ServiceError}
-use Rattle.rv_host.specs.declared.service.ServiceError.TheVariants.{Memory}
+use Rattle.rv_host.specs.declared.service.ServiceError.TheVariants.{Console}
 
 -- what console and cabinet tell, and the streams
 pub record Seen : Type 0 where
@@ -25,7 +25,7 @@ abbrev pub seen : Option (List ℕ) → Option (List Event) → Option Files →
 seen left events files streams = record { told = record { left = left; events = events; files = files }; streams = streams }
 
 -- What is seen is what a world has, over the events and the files before the run.
-pub record Tells (events : List Event) (files : Files) (now : Seen) (w : World) : Type 0 where
+pub record ShowsWorld (events : List Event) (files : Files) (now : Seen) (w : World) : Type 0 where
   pub input : now.told.left ≡ Some w.left
   pub shows : ShowsTrace events files w.trace now.told
   pub streams : now.streams ≡ w.streams
@@ -48,12 +48,13 @@ world_of (Replies reply w) = w
 pub record IsServed (reply : Reply) (service : Served) (events : List Event) (files : Files) (now : Seen) : Type 0 where
   pub world : World
   pub is : service ≡ served_as reply world
-  pub told : Tells events files now world
+  pub told : ShowsWorld events files now world
 
--- A service was not done, or only a first part of it. Memory ran out only where the program has asked to open a stream.
+-- A service was not done, or only a first part of it, and all that was done before it is there. But for the console a service is
+-- cut off only where the program has asked to open a stream.
 pub record IsCut (error : ServiceError) (w : World) (service : Served) (events : List Event) (files : Files) (told : Told) : Type 0 where
-  pub part : ShowsPart events files (world_of service).trace told
-  pub opened : error ≡ Memory → IsClosed w → (world_of service).opened ≡ true
+  pub part : ShowsPart events files w.trace (world_of service).trace told
+  pub opened : error ≢ Console → IsClosed w → (world_of service).opened ≡ true
 
 -- what the result of a service says, which came to a world
 abbrev pub IsDone : Result Reply ServiceError → World → Served → List Event → Files → Seen → Type 0
@@ -63,7 +64,7 @@ IsDone (Err error) w service events files now = IsCut error w service events fil
 -- the same of each world that may have been before it
 abbrev pub Serves : (Folder → World → Served) → Seen → Seen → Result Reply ServiceError → Type 0
 Serves service before after result =
-    (w : World) (events : List Event) (files : Files) → Tells events files before w → IsDone result w (service (Holding files) w) events files after
+    (w : World) (events : List Event) (files : Files) → ShowsWorld events files before w → IsDone result w (service (Holding files) w) events files after
 
 -- the stream that is opened to read a file
 abbrev pub reading_of : List ℕ → Option (List ℕ) → Option Stream

@@ -1,7 +1,8 @@
 -- What console and cabinet tell of a run.
-use Rattle.std.specs.Prelude.{◌≡◌, ℕ, List, ◌++◌, take, Option, Some}
+use Rattle.std.specs.Prelude.{◌≡◌, ℕ, List, ◌++◌, Option, Some}
 use Rattle.tu_base.specs.declared.event.Event.{Event}
 use Rattle.tu_base.specs.Files.{Files}
+use Rattle.tu_base.specs.Prefix.{IsPrefix}
 use Rattle.tu_base.specs.Trace.{Trace, events_of, files_of}
 
 -- the input still to come, what was written and read so far, and the files
@@ -15,7 +16,9 @@ pub record ShowsTrace (events : List Event) (files : Files) (trace : Trace) (tol
   pub done : told.events ≡ Some (events ++ events_of trace)
   pub kept : told.files ≡ Some (files_of files trace)
 
--- They tell a first part of a trace.
-pub record ShowsPart (events : List Event) (files : Files) (trace : Trace) (told : Told) : Type 0 where
-  pub count : ℕ
-  pub part : ShowsTrace events files (take count trace) told
+-- They tell a first part of a trace, and no less than what was due.
+pub record ShowsPart (events : List Event) (files : Files) (due trace : Trace) (told : Told) : Type 0 where
+  pub done : Trace
+  pub shows : ShowsTrace events files done told
+  pub nothing_held_back : IsPrefix due done
+  pub nothing_else : IsPrefix done trace

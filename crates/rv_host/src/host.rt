@@ -25,7 +25,8 @@ pub enum HostEnd {
     Fault { kind: FaultKind, pc: u32 },
     /// The console failed. Its fault count has risen.
     ConsoleFault,
-    /// The cabinet failed. Its fault count has risen.
+    /// The cabinet failed, which comes only after the program has asked to open a file. Its fault
+    /// count has risen.
     CabinetFault,
     /// Want of memory, which comes only after the program has asked to open a file.
     Memory,
@@ -36,12 +37,12 @@ pub enum HostEnd {
 ///
 /// The program has ten streams, with the numbers from 1 on. Each reads or writes a file of at most
 /// 16,777,216 bytes. A file that is read is fetched when it is opened, and one that is written is kept
-/// when its stream is closed or the program ends or is stopped. Until the program asks to open a file
-/// the cabinet is not asked, and no memory is taken.
+/// when its stream is closed or the program ends or is stopped. Before the program has asked to open a
+/// file the cabinet does not fail, and memory does not run out.
 ///
 /// `Ended`, `Stopped`, `Spent` and `Fault` are the verdicts of the program's run on the console's input
 /// and the cabinet's files. After `ConsoleFault`, `CabinetFault` and `Memory` a first part of what that
-/// run does stands at the console and in the cabinet.
+/// run does stands at the console and in the cabinet, with all that it did before the last instruction.
 pub fn run<C: Console, K: Cabinet>(
     alloc: Global,
     machine: &mut Machine,

@@ -2,7 +2,10 @@
 use Rattle.std.proofs.Common.{◌≡◌, ℕ, List, [], ◌∷◌, Result, Ok, Err, true, false, replicate, take, slice_set, codes, refl}
 use Rattle.rv_image.specs.Picture.{Picture, spelling}
 use Rattle.rv_image.specs.Reading.{reading}
-use Rattle.rv_image.specs.Streams.{Free, Reading, is_file_name, free_stream}
+use Rattle.tu_base.specs.Trace.{Got}
+use Rattle.rv_isa.specs.Memory.{Memory}
+use Rattle.rv_isa.specs.declared.service.Service.TheVariants.{GetConsole, GetStream}
+use Rattle.rv_image.specs.Streams.{Closed, Free, Reading, Replies, served, start_world, with_stream, is_file_name, free_stream}
 use Rattle.rv_image.specs.declared.image.ImageError.{ImageError}
 use Rattle.rv_image.specs.declared.image.ImageError.TheVariants.{Short, Magic, Version, Length, Entry, Globals}
 
@@ -52,3 +55,15 @@ names = (refl, refl, refl, refl)
 -- 64 bytes are enough, and 65 too many
 name_sizes : (is_file_name (replicate 64 0x61) ≡ true) × (is_file_name (replicate 65 0x61) ≡ false)
 name_sizes = (refl, refl)
+
+abbrev no_memory : Memory
+no_memory = λ a. 0
+
+-- what is taken of a number is a byte, and is not the reply where there is none
+taken_console : (served Closed no_memory GetConsole (start_world (300 ∷ [])) ≡ Replies 44 (record (start_world []) { trace = Got 44 ∷ [] })) ×
+    (served Closed no_memory GetConsole (start_world (4294967295 ∷ [])) ≡ Replies 255 (record (start_world []) { trace = Got 255 ∷ [] }))
+taken_console = (refl, refl)
+
+taken_stream : (served Closed no_memory (GetStream 1) (with_stream (start_world []) 1 (Reading (codes "a") (300 ∷ []))) ≡ Replies 44 (with_stream (start_world []) 1 (Reading (codes "a") []))) ×
+    (served Closed no_memory (GetStream 1) (with_stream (start_world []) 1 (Reading (codes "a") (4294967295 ∷ []))) ≡ Replies 255 (with_stream (start_world []) 1 (Reading (codes "a") [])))
+taken_stream = (refl, refl)

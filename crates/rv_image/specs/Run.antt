@@ -1,5 +1,8 @@
 -- The run of an image with the services of its host.
 use Rattle.std.specs.Prelude.{ℕ, zero, suc, ◌+◌, ◌-◌, List}
+use Rattle.tu_base.specs.Kind.{kind_number}
+use Rattle.tu_base.specs.declared.event.Verdict.{Verdict}
+use Rattle.tu_base.specs.declared.event.Verdict.TheVariants.{Ended as verdict_ended, Stopped as verdict_stopped, Going as verdict_going}
 use Rattle.rv_isa.specs.declared.service.FaultKind.{FaultKind}
 use Rattle.rv_isa.specs.Step.{Cpu, with_any, Space, Outcome, Goes, Asks, Faults, step}
 use Rattle.rv_image.specs.Picture.{Picture}
@@ -13,6 +16,19 @@ pub data MachineVerdict : Type 0 where
   Stopped : (kind line : ℕ) → MachineVerdict
   Fault : (kind : FaultKind) → (pc : ℕ) → MachineVerdict
   Going : MachineVerdict
+
+-- a run has ended or was stopped
+abbrev pub IsOver : MachineVerdict → Type 0
+IsOver Ended = Unit {0}
+IsOver (Stopped kind line) = Unit {0}
+IsOver (Fault kind pc) = ⊥
+IsOver Going = ⊥
+
+-- the verdict of a program as a machine gives it, with the number of the exception
+abbrev pub machine_verdict : Verdict → MachineVerdict
+machine_verdict verdict_ended = Ended
+machine_verdict (verdict_stopped kind line) = Stopped (kind_number kind) line
+machine_verdict verdict_going = Going
 
 -- how a run stands, after how many instructions, and what it left
 pub record Ran : Type 0 where

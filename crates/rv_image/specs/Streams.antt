@@ -1,5 +1,5 @@
 -- The services of a host: a console, and files by streams.
-use Rattle.std.specs.Prelude.{ℕ, zero, suc, ◌+◌, ◌-◌, Bool, true, false, ◌==◌, nat_le, ◌&&◌, ◌||◌, not, if◌then◌else◌, List, [], ◌∷◌, ◌++◌, length, map, replicate, Option, Some, None, slice_get, slice_set}
+use Rattle.std.specs.Prelude.{ℕ, zero, suc, ◌+◌, ◌-◌, ◌%◌, Bool, true, false, ◌==◌, nat_le, ◌&&◌, ◌||◌, not, if◌then◌else◌, List, [], ◌∷◌, ◌++◌, length, map, replicate, Option, Some, None, slice_get, slice_set}
 use Rattle.std.specs.List.{list_all, list_any}
 use Rattle.std.specs.Char.{is_ascii_alphanumeric}
 use Rattle.std.specs.Ordering.{nat_cmp, eq_by_cmp}
@@ -12,6 +12,12 @@ use Rattle.rv_isa.specs.Memory.{Memory, byte_at}
 use Rattle.rv_isa.specs.declared.service.Service.{Service}
 use Rattle.rv_isa.specs.declared.service.Service.TheVariants.{End, Stop, PutConsole, GetConsole, Open, Close, PutStream, GetStream, State}
 
+-- Example: a program reads two bytes of the input 7 and ends. Its world begins as `start_world (7 ∷ [])`. The first GetConsole replies 7 and adds
+-- `Got 7`, the second replies `no_byte` and adds `AtEnd`, and End finishes with the trace `Got 7 ∷ AtEnd ∷ []` and nothing left.
+-- Example: with the file `a` of the byte 5, Open of `a` to be read replies 1, the least free stream; GetStream 1 replies 5 and then `no_byte`;
+-- Close 1 replies 0, and a second Close 1 replies 1, as the stream is free again. Reading a file adds nothing to the trace. A file that is
+-- written adds its `Keep` where it is closed, or where the program ends or is stopped.
+
 -- what can be opened: nothing at all, or these files and those that are kept in the run
 pub data Folder : Type 0 where
   Closed : Folder
@@ -23,8 +29,8 @@ pub data Stream : Type 0 where
   Reading : (name left : List ℕ) → Stream
   Writing : (name contents : List ℕ) → Stream
 
--- the input still to come, what was done so far, the streams from 1 to 10, and whether the program has asked to open one, as a host takes no
--- memory before that
+-- the input still to come, what was done so far, the streams from 1 to 10, and whether the program has asked to open one, which no service
+-- looks at: a host takes no memory before that
 pub record World : Type 0 where
   pub left : List ℕ
   pub trace : Trace
@@ -70,9 +76,15 @@ kept (Free ∷ streams) = kept streams
 kept (Reading name left ∷ streams) = kept streams
 kept (Writing name contents ∷ streams) = Keep name contents ∷ kept streams
 
+-- The byte that is taken of a number of an input or of a file: its remainder by 256. A number that is a byte is taken as it is, so that
+-- the lists of all numbers need no premise: of 300 the byte 44 is taken, and of 4294967295 the byte 255, which is not `no_byte`.
+abbrev pub taken : ℕ → ℕ
+taken b = b % 256
+
+-- A byte of the console. `AtEnd` is added at each read at the end; that a program reads there once at most is the program's doing.
 abbrev pub got : World → List ℕ → Served
 got w [] = Replies no_byte (traced w (AtEnd ∷ []))
-got w (b ∷ left) = Replies b (record w { left = left; trace = w.trace ++ Got b ∷ [] })
+got w (b ∷ left) = Replies (taken b) (record w { left = left; trace = w.trace ++ Got (taken b) ∷ [] })
 
 -- a letter, a digit, `.`, `_` or `-`
 abbrev pub is_name_byte : ℕ → Bool
@@ -127,7 +139,7 @@ puts w i bytes (Writing name contents) =
 abbrev pub gets : World → ℕ → Stream → Served
 gets w i Free = Replies no_byte w
 gets w i (Reading name []) = Replies no_byte w
-gets w i (Reading name (b ∷ left)) = Replies b (with_stream w i (Reading name left))
+gets w i (Reading name (b ∷ left)) = Replies (taken b) (with_stream w i (Reading name left))
 gets w i (Writing name contents) = Replies no_byte w
 
 abbrev pub state : Stream → ℕ

@@ -73,7 +73,7 @@ pub enum RegisterOp {
 
 /// An instruction. Registers are 0 to 31. A signed immediate is the word of 32 bits that stands for
 /// it, and an offset is a signed immediate in bytes. `upper` has its low 12 bits zero.
-#[derive(Clone, Copy, PartialEq, Eq, Debug)]
+#[derive(Clone, Copy)]
 pub enum Instr {
     Lui {
         rd: u8,

@@ -19,7 +19,7 @@ use Rattle.rv_runs.proofs.Steps.{Loadable, Storable, loadable, storable}
 use Rattle.rv_layout.specs.Rooms.{slot}
 use Rattle.rv_layout.specs.Words.{load_kind, store_kind}
 use Rattle.rv_layout.specs.Ready.{InSlot}
-use Rattle.rv_layout.proofs.Held.{Layout, Laid, Held}
+use Rattle.rv_layout.specs.Held.{Layout, Laid, Held}
 use Rattle.rv_layout.proofs.Stores.{slot_at, frame_low, below_top, held_byte, held_word}
 
 pub both : (a b : Bool) → (a && b) ≡ true → (a ≡ true) × (b ≡ true)

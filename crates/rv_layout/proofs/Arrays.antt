@@ -18,14 +18,14 @@ use Rattle.ir_form.specs.declared.plain.Plain.TheVariants.{Take, Give}
 use Rattle.ir_form.specs.Place.{Setting, end_at}
 use Rattle.ir_form.specs.Cells.{Closed, with_range}
 use Rattle.ir_form.specs.Cost.{plain_price}
-use Rattle.ir_form.specs.Plain.{storage, defines, stack_top, with_array}
+use Rattle.ir_form.specs.Plain.{storage, defines, stack_top, with_array, does}
 use Rattle.ir_form.specs.State.{State, raised}
 use Rattle.ir_form.specs.Units.{Head}
 use Rattle.rv_flat.specs.declared.linear.Instruction.TheVariants.{Plain}
 use Rattle.rv_flat.specs.declared.linear.LinearRoutine.{LinearRoutine}
 use Rattle.rv_flat.specs.declared.linear.Linear.{Linear}
 use Rattle.rv_flat.specs.Units.{head_of}
-use Rattle.rv_frames.specs.Frames.{Caller, Running, operates, goes_on_run}
+use Rattle.rv_frames.specs.Frames.{Caller, Running, goes_on_run, no_calls}
 use Rattle.rv_runs.specs.Moments.{Ground, Moment, Live, Comes}
 use Rattle.rv_runs.specs.Stands.{StandsAt, Stands}
 use Rattle.rv_runs.proofs.Comes.{widen}
@@ -34,12 +34,12 @@ use Rattle.rv_runs.proofs.Steps.{cpu, immediate, shift, combine, branch, jump}
 use Rattle.rv_layout.specs.Pieces.{upper, copy, call_to, raising}
 use Rattle.rv_layout.specs.Rooms.{head_at, store_value}
 use Rattle.rv_layout.specs.Calling.{refusal_bytes}
-use Rattle.rv_layout.proofs.Held.{Code, Layout, Laid, IsEven, lowest, Holds, Fast, LiveAt, Same}
+use Rattle.rv_layout.specs.Held.{Code, Layout, Laid, IsEven, lowest, Holds, Fast, LiveAt, Same}
 use Rattle.rv_layout.proofs.Slots.{behind, after, call_then}
 use Rattle.rv_layout.proofs.Stores.{below_top}
 use Rattle.rv_layout.proofs.Access.{both, end_small}
 use Rattle.rv_layout.proofs.Begins.{Sane, needed, value_then, begins, goes_on, defined}
-use Rattle.rv_layout.proofs.Flow.{raise_then}
+use Rattle.rv_layout.proofs.Flow.{raise_then, stops}
 use Rattle.rv_layout.proofs.Ranges.{code_even}
 use Rattle.rv_layout.proofs.Passing.{refused_then}
 use Rattle.rv_layout.proofs.Taken.{held_taken, held_given}
@@ -124,7 +124,7 @@ module _ (g : Ground) (gs : Setting) (l : Linear) (y : Layout) (laid : Laid g gs
   -- what an operation is done by
   abbrev Locked : PlainOp → Type 0
   Locked p = (st : State) (c : Moment) → slice_get r.code i ≡ Some (Plain p) → Sane l r (Plain p) → LiveAt g gs l y k i (head_at l.routines k) st callers c →
-      Comes g 1 (plain_price p) c (Same g gs l y (operates gs l k (i + 1) callers p st))
+      Comes g 1 (plain_price p) c (Same g gs l y (goes_on_run k (i + 1) callers (does gs no_calls p st 0)))
 
   -- how many words, and on to the shared piece
   to_shared : (a b x words line w : ℕ) (st : State) (c : Moment) (t : Bool) (P : Moment → Type 0) → leb (st.rooms + w) 8388608 ≡ t → st.env words ≡ Some w → slice_get r.code i ≡ Some (Plain (Take x words line)) → Sane l r (Plain (Take x words line)) →
@@ -148,10 +148,10 @@ module _ (g : Ground) (gs : Setting) (l : Linear) (y : Layout) (laid : Laid g gs
       (omega arith) (omega arith))
 
   take_by : (t : Bool) (x words line w : ℕ) (st : State) (c : Moment) → leb (st.rooms + w) 8388608 ≡ t → st.env words ≡ Some w → slice_get r.code i ≡ Some (Plain (Take x words line)) → Sane l r (Plain (Take x words line)) →
-      LiveAt g gs l y k i (head_at l.routines k) st callers c → Comes g 1 20 c (Same g gs l y (goes_on_run k (i + 1) callers (if t then defines x (stack_top gs (with_array gs w st)) (with_array gs w st) 0 else raised storage line st 0)))
+      LiveAt g gs l y k i (head_at l.routines k) st callers c → Comes g 1 40 c (Same g gs l y (goes_on_run k (i + 1) callers (if t then defines x (stack_top gs (with_array gs w st)) (with_array gs w st) 0 else raised storage line st 0)))
   take_by true x words line w st c e ew at ok is =
       let few = leb-true (st.rooms + w) 8388608 e in
-      widen g (1 + 3 + 6) (3 + 3 + 9) 1 20 _ _
+      widen g (1 + 3 + 6) (3 + 3 + 9) 1 40 _ _
       (to_shared (1 + 3) (3 + 3) x words line w st c true _ e ew at ok is (λ z m n me fast e5 e8 even code.
       let none = me.active.none_deeper ok.there.0 in
       let me2 = held_taken g gs l y h st.rooms st.deeper st.frame st.taken st.env st.cells callers m me w few in
@@ -162,14 +162,15 @@ module _ (g : Ground) (gs : Setting) (l : Linear) (y : Layout) (laid : Laid g gs
       (subst (λ p. Code g.space (p + 20) (store_value h 1 x) to) (sym e8) code2))))
       (omega arith) (omega arith)
   take_by false x words line w st c e ew at ok is =
-      widen g (5 + 6) (5 + 9) 1 20 _ _
+      widen g (5 + 6) (5 + 9) 1 40 _ _
       (to_shared 5 5 x words line w st c false _ e ew at ok is (λ z m n me fast e5 e8 even code.
-      raise_then g storage line z m n (n + 20) st.world (omega arith) (omega arith) ok.small fast.0 (record { stand = stands_left g.space n (raising storage line) (store_value h 1 x) code.stand; end = refl })))
+      stops g gs l y h k storage line st m callers 5 5 _ me
+      (raise_then g storage line z m n (n + 20) st.world (omega arith) (omega arith) ok.small fast.0 (record { stand = stands_left g.space n (raising storage line) (store_value h 1 x) code.stand; end = refl }))))
       (omega arith) (omega arith)
 
   pub take_lock : (x words line : ℕ) → Locked (Take x words line)
   take_lock x words line st c at ok is =
-      needed g gs l y laid k i r here callers (i + 1) (st.env words) st 0 _ c 1 20 (omega arith) (λ w ew. take_by (leb (st.rooms + w) 8388608) x words line w st c refl ew at ok is)
+      needed g gs l y laid k i r here callers (i + 1) (st.env words) st 0 _ c 1 40 (omega arith) (λ w ew. take_by (leb (st.rooms + w) 8388608) x words line w st c refl ew at ok is)
 
   -- the state when so many words are handed back
   abbrev less : State → ℕ → State

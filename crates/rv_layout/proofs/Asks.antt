@@ -13,21 +13,21 @@ use Rattle.rv_image.specs.Streams.{AtItsEnd, StoppedBy, Served, Finishes, Replie
 use Rattle.ir_form.specs.declared.plain.Plain.TheVariants.{Ask}
 use Rattle.ir_form.specs.Place.{Setting}
 use Rattle.ir_form.specs.Cells.{memory_of}
-use Rattle.ir_form.specs.Plain.{lends, on_word, replied}
+use Rattle.ir_form.specs.Plain.{lends, on_word, replied, does}
 use Rattle.ir_form.specs.State.{State, Run, needs}
 use Rattle.ir_form.specs.Units.{Head}
 use Rattle.rv_flat.specs.declared.linear.Instruction.TheVariants.{Plain}
 use Rattle.rv_flat.specs.declared.linear.LinearRoutine.{LinearRoutine}
 use Rattle.rv_flat.specs.declared.linear.Linear.{Linear}
 use Rattle.rv_flat.specs.Units.{head_of}
-use Rattle.rv_frames.specs.Frames.{Caller, goes_on_run, operates}
+use Rattle.rv_frames.specs.Frames.{Caller, goes_on_run, no_calls}
 use Rattle.rv_runs.specs.Moments.{Ground, Moment, Live, Finished, told, Comes}
 use Rattle.rv_runs.proofs.Comes.{done, widen}
 use Rattle.rv_runs.proofs.Steps.{cpu, immediate, ask, asked_end, asked_stop, asked_put, asked_get, asked_open, asked_close, asked_put_stream, asked_get_stream, asked_state}
 use Rattle.rv_layout.specs.Pieces.{ask as asking_for}
 use Rattle.rv_layout.specs.Rooms.{head_at, load_value, store_value}
 use Rattle.rv_layout.specs.Ready.{InSlot}
-use Rattle.rv_layout.proofs.Held.{Code, Layout, Laid, lowest, Holds, Fast, LiveAt, Same}
+use Rattle.rv_layout.specs.Held.{Code, Layout, Laid, lowest, Holds, Fast, LiveAt, Same}
 use Rattle.rv_layout.proofs.Slots.{after}
 use Rattle.rv_layout.proofs.Access.{both, lent}
 use Rattle.rv_layout.proofs.Begins.{Sane, value_then, begins, defined}
@@ -93,7 +93,7 @@ module _ (g : Ground) (gs : Setting) (l : Linear) (y : Layout) (laid : Laid g gs
 
   abbrev Asked : Service → Type 0
   Asked s = (x : ℕ) (st : State) (c : Moment) → slice_get r.code i ≡ Some (Plain (Ask x s)) → Sane l r (Plain (Ask x s)) → LiveAt g gs l y k i (head_at l.routines k) st callers c →
-      Comes g 1 14 c (Same g gs l y (operates gs l k (i + 1) callers (Ask x s) st))
+      Comes g 1 14 c (Same g gs l y (goes_on_run k (i + 1) callers (does gs no_calls (Ask x s) st 0)))
 
   end_lock : Asked End
   unfolding with_any

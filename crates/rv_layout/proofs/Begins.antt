@@ -13,9 +13,9 @@ use Rattle.rv_flat.specs.declared.linear.Instruction.{Instruction}
 use Rattle.rv_flat.specs.declared.linear.LinearRoutine.{LinearRoutine}
 use Rattle.rv_flat.specs.declared.linear.Linear.{Linear}
 use Rattle.rv_flat.specs.Lawful.{depths_of}
-use Rattle.rv_flat.specs.Parts.{instruction_numbers, instruction_plains, instruction_takers, IsDistinct}
+use Rattle.rv_flat.specs.Parts.{instruction_numbers, instruction_plains, instruction_takers, IsDistinct, IsUnguardedInstruction}
 use Rattle.rv_flat.specs.Units.{head_of}
-use Rattle.rv_frames.specs.Frames.{Caller, Machine, Running, wants, goes_on_run, place_of_label}
+use Rattle.rv_frames.specs.Frames.{Caller, Machine, Running, wants, goes_on_run}
 use Rattle.rv_runs.specs.Moments.{Ground, Moment, Live, Comes}
 use Rattle.rv_runs.specs.Stands.{Stands}
 use Rattle.rv_runs.proofs.Comes.{done}
@@ -25,7 +25,7 @@ use Rattle.rv_layout.specs.Pieces.{is_near}
 use Rattle.rv_layout.specs.Rooms.{slot, head_in, head_at, load_value, store_value}
 use Rattle.rv_layout.specs.Words.{instruction_words}
 use Rattle.rv_layout.specs.Ready.{InSlot, IsSmall}
-use Rattle.rv_layout.proofs.Held.{Code, Layout, Laid, lowest, Holds, Fast, LiveAt, Same}
+use Rattle.rv_layout.specs.Held.{Code, Layout, Laid, lowest, Holds, Fast, LiveAt, Same}
 use Rattle.rv_layout.proofs.Slots.{behind, load_then, store_then}
 use Rattle.rv_layout.proofs.Stores.{held_defined}
 use Rattle.rv_layout.proofs.Access.{slot_word}
@@ -34,6 +34,7 @@ use Rattle.rv_layout.proofs.Access.{slot_word}
 pub record Sane (l : Linear) (r : LinearRoutine) (x : Instruction) : Type 0 where
   pub numbers : Each (InSlot (head_of r)) (instruction_numbers x)
   pub small : IsSmall x
+  pub unguarded : IsUnguardedInstruction x
   pub distinct : Each IsDistinct (instruction_takers x)
   pub there : Each (IsThere l.globals (length l.texts) (depths_of l.routines) r.words r.depth) (instruction_plains x)
 
@@ -46,7 +47,7 @@ module _ (g : Ground) (gs : Setting) (l : Linear) (y : Layout) (laid : Laid g gs
   to = y.place k (i + 1)
 
   abbrev pub words : Instruction → List Instr
-  words x = instruction_words y.addresses l.routines (head_of r) (λ label. y.place k (place_of_label label r.code)) x
+  words x = instruction_words y.addresses l.routines (head_of r) (y.jump k i) x
 
   -- a value that must be there
   pub needed : {A : Type 0} → (j : ℕ) (o : Option A) (st : State) (c : ℕ) (go : A → Run) (x : Moment) (lo hi : ℕ) → lo ≤ hi → ((v : A) → o ≡ Some v → Comes g lo hi x (Same g gs l y (goes_on_run k j callers (go v)))) →

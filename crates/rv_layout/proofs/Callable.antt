@@ -11,10 +11,10 @@ use Rattle.ir_form.specs.Units.{Head}
 use Rattle.rv_flat.specs.declared.linear.LinearRoutine.{LinearRoutine}
 use Rattle.rv_flat.specs.declared.linear.Linear.{Linear}
 use Rattle.rv_flat.specs.Lawful.{depths_of}
-use Rattle.rv_flat.specs.Parts.{gathered, instruction_numbers, code_plains, linear_numbers}
+use Rattle.rv_flat.specs.Parts.{gathered, instruction_numbers, code_plains, linear_numbers, linear_marks}
 use Rattle.rv_flat.specs.Units.{head_of}
-use Rattle.rv_layout.specs.Ready.{InSlot, IsReady, IsReadyRoutine}
-use Rattle.rv_layout.proofs.Held.{lowest, Active}
+use Rattle.rv_layout.specs.Ready.{InSlot, IsReadyCode, IsReadyRoutine}
+use Rattle.rv_layout.specs.Held.{lowest, Active}
 
 pub record Callable (h : Head) : Type 0 where
   pub words : h.words + 32 ≤ h.room
@@ -34,10 +34,10 @@ each_right P (x ∷ xs) ys h = each_right P xs ys h.1
 pub all_at : {X : Type 0} (P : X → Type 0) (xs : List X) (k : ℕ) (x : X) → All P xs → slice_get xs k ≡ Some x → P x
 all_at P xs k x h e = subst P (get_or_from_slice_get xs k x x e) (h k x (slice_get_within xs k x e))
 
-pub callable_of : (l : Linear) → IsReady l → (k : ℕ) (r : LinearRoutine) → slice_get l.routines k ≡ Some r → Callable (head_of r)
+pub callable_of : (l : Linear) → IsReadyCode l → (k : ℕ) (r : LinearRoutine) → slice_get l.routines k ≡ Some r → Callable (head_of r)
 callable_of l ready k r here =
-    let s : IsSound l.globals (length l.texts) (depths_of l.routines) (head_of r) (code_plains r.code) (linear_numbers r) =
-    all_at (λ n. IsSound l.globals (length l.texts) (depths_of l.routines) (head_of n) (code_plains n.code) (linear_numbers n)) l.routines k r ready.sound.routines here in
+    let s : IsSound l.globals (length l.texts) (depths_of l.routines) (head_of r) (code_plains r.code) (linear_numbers r) (linear_marks r) =
+    all_at (λ n. IsSound l.globals (length l.texts) (depths_of l.routines) (head_of n) (code_plains n.code) (linear_numbers n) (linear_marks n)) l.routines k r ready.sound.routines here in
     let o : IsReadyRoutine r = all_at IsReadyRoutine l.routines k r ready.routines here in
     let few = s.few in
     record {

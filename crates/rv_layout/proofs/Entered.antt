@@ -1,5 +1,5 @@
 -- What a call leaves of the activations and the cells.
-use Rattle.std.proofs.Common.{◌≡◌, ℕ, ◌+◌, ◌-◌, ◌*◌, ◌%◌, ◌<◌, ◌≤◌, ◌⊎◌, inl, inr, true, leb, ltb, List, ◌∷◌, Some, refl, arith, ap, ◌∙◌}
+use Rattle.std.proofs.Common.{◌≡◌, ℕ, ◌+◌, ◌-◌, ◌*◌, ◌%◌, ◌<◌, ◌≤◌, ◌⊎◌, inl, inr, true, leb, ltb, List, ◌∷◌, Some, None, refl, arith, ap, ◌∙◌}
 use Rattle.std.specs.Prelude.{◌&&◌}
 use Rattle.std.specs.List.{AllByRecursion as Each}
 use Rattle.rv_isa.specs.Memory.{Memory, word_at, with_word}
@@ -15,7 +15,7 @@ use Rattle.rv_runs.proofs.Steps.{Storable, storable}
 use Rattle.rv_layout.specs.Rooms.{slot, head_at}
 use Rattle.rv_layout.specs.Calling.{receiving}
 use Rattle.rv_layout.specs.Ready.{InSlot}
-use Rattle.rv_layout.proofs.Held.{Code, Layout, Laid, resume, lowest, Active, Slots, IsFree, Held}
+use Rattle.rv_layout.specs.Held.{Code, Layout, Laid, resume, lowest, Active, Slots, IsFree, Held}
 use Rattle.rv_layout.proofs.Stores.{alike_store, word_again, slot_at, slots_alike, slots_defined, below_above, frame_low, clear_under}
 use Rattle.rv_layout.proofs.Access.{end_small}
 use Rattle.rv_layout.proofs.Ranges.{byte_before, fixed_before, open_now, inside_range}
@@ -101,7 +101,7 @@ module _ (g : Ground) (gs : Setting) (l : Linear) (y : Layout) (laid : Laid g gs
         under_word m (base + slot new t) is.caller (omega arith) (omega arith) (omega arith)
 
 -- the caller waits, and the callee runs
-module _ (g : Ground) (gs : Setting) (l : Linear) (y : Layout) (laid : Laid g gs l y) (f : Caller) (callers : List Caller) (new : Head) (rooms2 deeper2 : ℕ) (active : Active gs new rooms2 deeper2 (lowest gs rooms2 deeper2) 0) (roof : lowest gs rooms2 deeper2 + 4 * new.room ≡ lowest gs f.state.rooms f.state.deeper) where
+module _ (g : Ground) (gs : Setting) (l : Linear) (y : Layout) (laid : Laid g gs l y) (f : Caller) (callers : List Caller) (new : Head) (rooms2 deeper2 : ℕ) (active : Active gs new rooms2 deeper2 (lowest gs rooms2 deeper2) 0) (roof : lowest gs rooms2 deeper2 + 4 * new.room ≡ lowest gs f.state.rooms f.state.deeper) (guard : f.guard ≡ None) where
   abbrev hf : Head
   hf = head_at l.routines f.routine
 
@@ -166,6 +166,7 @@ module _ (g : Ground) (gs : Setting) (l : Linear) (y : Layout) (laid : Laid g gs
             back = ap (λ p. word_at n (p - 8)) roof ∙ (word_other m (low - 4) way (low - 8) (inl (omega arith)) ∙ is.back);
             code = code;
             to = to;
+            guard = guard;
           },
           mine.below,
         );

@@ -30,7 +30,7 @@ use Rattle.rv_layout.specs.Pieces.{load_by, store_by}
 use Rattle.rv_layout.specs.Rooms.{slot, head_at}
 use Rattle.rv_layout.specs.Moves.{Move, Copy, Swap, is_among, moves, are_near, is_mixed, copy_words, swap_words, move_words}
 use Rattle.rv_layout.specs.Ready.{InSlot}
-use Rattle.rv_layout.proofs.Held.{Code, Layout, Laid, lowest, Slots, Held, Fast, LiveAt, Same}
+use Rattle.rv_layout.specs.Held.{Code, Layout, Laid, lowest, Slots, Held, Fast, LiveAt, Same}
 use Rattle.rv_layout.proofs.Slots.{behind, after, load_then, store_then}
 use Rattle.rv_layout.proofs.Stores.{word_again, held_defined}
 use Rattle.rv_layout.proofs.Access.{slot_word}

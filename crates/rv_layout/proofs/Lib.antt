@@ -1,32 +1,22 @@
+-- for the crates above
+pub mod Slots
+pub mod Stores
+pub mod Access
+pub mod Flow
+pub mod Ranges
+pub mod Callable
+pub mod Moving
+pub mod Chain
 -- of this crate alone
-mod Rows
-mod Example
-mod Held
-mod Slots
-mod Stores
-mod Access
 mod Begins
 mod Plainly
-mod Flow
-mod Ranges
 mod Returned
 mod Returns
 mod Entered
 mod Passing
-mod Callable
 mod Calls
 mod Asks
-mod Moving
 mod Hands
-mod Sizes
-mod Fitting
-mod Placed
-mod Settled
 mod Known
-mod Bounded
 mod Taken
 mod Arrays
-mod Chain
-mod Bytes
-mod Start
-mod Whole

@@ -1,5 +1,5 @@
 -- The words that take a room, put the arguments and enter a routine.
-use Rattle.std.proofs.Common.{◌≡◌, ℕ, suc, ◌+◌, ◌-◌, ◌*◌, ◌/◌, ◌%◌, Bool, true, false, leb, ltb, List, [], ◌∷◌, ◌++◌, length, Some, refl, arith, ap, sym, ◌∙◌, subst}
+use Rattle.std.proofs.Common.{◌≡◌, ℕ, suc, ◌+◌, ◌-◌, ◌*◌, ◌/◌, ◌%◌, Bool, true, false, leb, ltb, List, [], ◌∷◌, ◌++◌, length, Some, None, refl, arith, ap, sym, ◌∙◌, subst}
 use Rattle.std.specs.Prelude.{not, if◌then◌else◌}
 use Rattle.std.specs.List.{AllByRecursion as Each}
 use Rattle.std.proofs.lemmas.Bool.{leb-true, leb-false, le-ltb, lt-ltb}
@@ -26,7 +26,7 @@ use Rattle.rv_layout.specs.Pieces.{is_near, minus, copy, constant, store_word}
 use Rattle.rv_layout.specs.Rooms.{slot, head_at, room_bytes, load_value}
 use Rattle.rv_layout.specs.Calling.{refusal_bytes, tests_room, takes_room, passing, receiving}
 use Rattle.rv_layout.specs.Ready.{InSlot}
-use Rattle.rv_layout.proofs.Held.{Code, Layout, Laid, IsEven, resume, lowest, Active, Held, Fast, LiveAt}
+use Rattle.rv_layout.specs.Held.{Code, Layout, Laid, IsEven, resume, lowest, Active, Held, Fast, LiveAt}
 use Rattle.rv_layout.proofs.Slots.{behind, after, load_then, store_then, constant_then}
 use Rattle.rv_layout.proofs.Access.{end_small, slot_word}
 use Rattle.rv_layout.proofs.Ranges.{code_even, jumped}
@@ -87,7 +87,7 @@ module _ (g : Ground) (gs : Setting) (l : Linear) (y : Layout) (laid : Laid g gs
       (refused_then g a b 5 6 x (room_bytes new) t q2 m at n w P refl refl (room_left t x e refl) even8 even code2.stand code2.end (f q2 refl refl fast))))
       (omega arith) (omega arith)
 
-module _ (g : Ground) (gs : Setting) (l : Linear) (y : Layout) (laid : Laid g gs l y) (f : Caller) (callers : List Caller) (new : Head) (rooms2 deeper2 : ℕ) (active : Active gs new rooms2 deeper2 (lowest gs rooms2 deeper2) 0) (roof : lowest gs rooms2 deeper2 + 4 * new.room ≡ lowest gs f.state.rooms f.state.deeper) where
+module _ (g : Ground) (gs : Setting) (l : Linear) (y : Layout) (laid : Laid g gs l y) (f : Caller) (callers : List Caller) (new : Head) (rooms2 deeper2 : ℕ) (active : Active gs new rooms2 deeper2 (lowest gs rooms2 deeper2) 0) (roof : lowest gs rooms2 deeper2 + 4 * new.room ≡ lowest gs f.state.rooms f.state.deeper) (guard : f.guard ≡ None) where
   abbrev hf : Head
   hf = head_at l.routines f.routine
 
@@ -174,7 +174,7 @@ module _ (g : Ground) (gs : Setting) (l : Linear) (y : Layout) (laid : Laid g gs
         is = refl;
         at = let end = code.end in omega arith;
         fast = (fast.0, fast.1, refl, fast.3, fast.4);
-        holds = subst (λ u. Held g gs l y new rooms2 deeper2 base 0 e (begun e).cells (f ∷ callers) (with_word m (low - 4) u)) (sym e8) (held_entered g gs l y laid f callers new rooms2 deeper2 active roof e m takes lows is);
+        holds = subst (λ u. Held g gs l y new rooms2 deeper2 base 0 e (begun e).cells (f ∷ callers) (with_word m (low - 4) u)) (sym e8) (held_entered g gs l y laid f callers new rooms2 deeper2 active roof guard e m takes lows is);
       }))))
 
   -- the room is taken, the arguments are put, and the callee runs

@@ -9,6 +9,7 @@ use Rattle.rv_isa.specs.Step.{Registers, with_any}
 use Rattle.ir_form.specs.declared.plain.Width.{Width}
 use Rattle.ir_form.specs.declared.plain.Plain.{Plain as PlainOp}
 use Rattle.ir_form.specs.declared.plain.Plain.TheVariants.{Constant, Global, Heap, Frame, Text, Compute, Load, Store}
+use Rattle.ir_form.specs.Plain.{does}
 use Rattle.ir_form.specs.Place.{Setting, heap_at}
 use Rattle.ir_form.specs.Cells.{loaded, stored}
 use Rattle.ir_form.specs.Cost.{plain_price}
@@ -18,7 +19,7 @@ use Rattle.rv_flat.specs.declared.linear.Instruction.TheVariants.{Plain}
 use Rattle.rv_flat.specs.declared.linear.LinearRoutine.{LinearRoutine}
 use Rattle.rv_flat.specs.declared.linear.Linear.{Linear}
 use Rattle.rv_flat.specs.Units.{head_of}
-use Rattle.rv_frames.specs.Frames.{Caller, Running, operates}
+use Rattle.rv_frames.specs.Frames.{Caller, Running, goes_on_run, no_calls}
 use Rattle.rv_runs.specs.Moments.{Ground, Moment, Live, Comes}
 use Rattle.rv_runs.proofs.Comes.{widen}
 use Rattle.rv_runs.proofs.Places.{stands_left}
@@ -27,7 +28,7 @@ use Rattle.rv_layout.specs.Pieces.{is_near, constant, long, address_word}
 use Rattle.rv_layout.specs.Rooms.{cut, head_at, store_value}
 use Rattle.rv_layout.specs.Words.{load_kind, store_kind}
 use Rattle.rv_layout.specs.Ready.{InSlot}
-use Rattle.rv_layout.proofs.Held.{Code, Layout, Laid, lowest, Holds, Fast, LiveAt, Same}
+use Rattle.rv_layout.specs.Held.{Code, Layout, Laid, lowest, Holds, Fast, LiveAt, Same}
 use Rattle.rv_layout.proofs.Slots.{behind, after, long_then, constant_then, address_then}
 use Rattle.rv_layout.proofs.Stores.{below_top}
 use Rattle.rv_layout.proofs.Access.{end_small, loads, stores}
@@ -43,7 +44,7 @@ module _ (g : Ground) (gs : Setting) (l : Linear) (y : Layout) (laid : Laid g gs
   -- what an operation is done by
   abbrev Locked : PlainOp → Type 0
   Locked p = (st : State) (c : Moment) → slice_get r.code i ≡ Some (Plain p) → Sane l r (Plain p) → LiveAt g gs l y k i (head_at l.routines k) st callers c →
-      Comes g 1 (plain_price p) c (Same g gs l y (operates gs l k (i + 1) callers p st))
+      Comes g 1 (plain_price p) c (Same g gs l y (goes_on_run k (i + 1) callers (does gs no_calls p st 0)))
 
   pub constant_lock : (x w : ℕ) → Locked (Constant x w)
   unfolding with_any

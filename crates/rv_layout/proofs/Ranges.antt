@@ -5,7 +5,7 @@ use Rattle.std.proofs.lemmas.Bool.{leb-true, ltb-true, ltb-false, le-leb, cases_
 use Rattle.rv_isa.specs.declared.instr.Instr.{Instr}
 use Rattle.rv_isa.specs.Step.{Space}
 use Rattle.ir_form.specs.Cells.{Cell, Closed, Unset, Fixed, byte_of, is_open}
-use Rattle.rv_layout.proofs.Held.{Code, IsEven}
+use Rattle.rv_layout.specs.Held.{Code, IsEven}
 use Rattle.rv_layout.proofs.Access.{both}
 
 -- a byte of a range, and one outside it

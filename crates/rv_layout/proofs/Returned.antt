@@ -11,7 +11,7 @@ use Rattle.rv_frames.specs.Frames.{Caller}
 use Rattle.rv_runs.specs.Moments.{Ground}
 use Rattle.rv_layout.specs.Rooms.{slot, head_at}
 use Rattle.rv_layout.specs.Ready.{InSlot}
-use Rattle.rv_layout.proofs.Held.{Layout, Outside, Held}
+use Rattle.rv_layout.specs.Held.{Layout, Outside, Held}
 use Rattle.rv_layout.proofs.Stores.{alike_store, alike_word, slot_at, slots_alike, slots_defined, below_above, frame_low}
 use Rattle.rv_layout.proofs.Ranges.{byte_before, fixed_before, open_left, outside_range}
 
@@ -62,6 +62,7 @@ module _ (g : Ground) (gs : Setting) (l : Linear) (y : Layout) (h : Head) (rooms
             back = alike_word m n (frame + 4 * h.words) (frame + 4 * h.room) (frame + 4 * h.room - 8) kept (omega arith) (omega arith) ∙ w.back;
             code = w.code;
             to = w.to;
+            guard = w.guard;
           },
           below_above g gs l y m n hf f.state.frame callers (omega arith) (alike_store m a v (f.state.frame + 4 * hf.room - 8) (end_at gs) (inl (omega arith))) is.below.1,
         );

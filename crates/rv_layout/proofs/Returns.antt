@@ -28,7 +28,7 @@ use Rattle.rv_layout.specs.Pieces.{is_near, minus, constant, store_word}
 use Rattle.rv_layout.specs.Rooms.{slot, head_at, room_bytes}
 use Rattle.rv_layout.specs.Calling.{giving_each, taking_each, receiving, returning}
 use Rattle.rv_layout.specs.Ready.{InSlot}
-use Rattle.rv_layout.proofs.Held.{Code, Layout, Laid, IsEven, resume, lowest, Holds, Fast, LiveAt, Same}
+use Rattle.rv_layout.specs.Held.{Code, Layout, Laid, IsEven, resume, lowest, Holds, Fast, LiveAt, Same}
 use Rattle.rv_layout.proofs.Slots.{behind, after, store_then, constant_then}
 use Rattle.rv_layout.proofs.Stores.{below_top}
 use Rattle.rv_layout.proofs.Access.{end_small, room_word, slot_word}

@@ -18,7 +18,7 @@ use Rattle.rv_runs.proofs.Comes.{widen}
 use Rattle.rv_runs.proofs.Places.{stands_right}
 use Rattle.rv_runs.proofs.Steps.{cpu, Loadable, Storable, lui, immediate, combine, load, store, jump, link}
 use Rattle.rv_layout.specs.Pieces.{upper, lower, long, constant_by, load_by, store_by, address_by, go_to, call_to}
-use Rattle.rv_layout.proofs.Held.{Code}
+use Rattle.rv_layout.specs.Held.{Code}
 
 -- two parts of a word
 pub joined : (w x : ℕ) → w < 4294967296 → w + x < 4294967296 → ((upper w + x) % 4294967296 + lower w) % 4294967296 ≡ x + w

@@ -13,7 +13,7 @@ use Rattle.rv_frames.specs.Frames.{Caller}
 use Rattle.rv_runs.specs.Moments.{Ground}
 use Rattle.rv_layout.specs.Rooms.{slot, head_at}
 use Rattle.rv_layout.specs.Ready.{InSlot}
-use Rattle.rv_layout.proofs.Held.{Layout, lowest, Active, Slots, Below, Outside, Clear, Held}
+use Rattle.rv_layout.specs.Held.{Layout, lowest, Active, Slots, Below, Outside, Clear, Held, NoGuards}
 
 -- the bytes from lo to hi are as before
 pub record Alike (m n : Memory) (lo hi : ℕ) : Type 0 where
@@ -90,6 +90,11 @@ unchanged_clear : (l : Linear) (m : Memory) (a v : ℕ) (callers : List Caller) 
 unchanged_clear l m a v [] c = tt
 unchanged_clear l m a v (f ∷ callers) c = (alike_byte m a v _ _ c.0, unchanged_clear l m a v callers c.1)
 
+-- no caller takes an exception
+pub below_unguarded : (g : Ground) (gs : Setting) (l : Linear) (y : Layout) (m : Memory) (h : Head) (frame : ℕ) (callers : List Caller) → Below g gs l y m h frame callers → NoGuards callers
+below_unguarded g gs l y m h frame [] b = tt
+below_unguarded g gs l y m h frame (f ∷ callers) b = (b.0.guard, below_unguarded g gs l y m (head_at l.routines f.routine) f.state.frame callers b.1)
+
 pub below_kept : (g : Ground) (gs : Setting) (l : Linear) (y : Layout) (m n : Memory) (h : Head) (frame : ℕ) (callers : List Caller) → 8 ≤ 4 * h.room → Alike m n (frame + 4 * h.room - 8) (frame + 4 * h.room) → Unchanged l m n callers →
     Below g gs l y m h frame callers → Below g gs l y n h frame callers
 below_kept g gs l y m n h frame [] lo al un b = (b.0, alike_word m n (frame + 4 * h.room - 8) (frame + 4 * h.room) (frame + 4 * h.room - 4) al (omega arith) (omega arith) ∙ b.1)
@@ -105,6 +110,7 @@ below_kept g gs l y m n h frame (f ∷ callers) lo al un b =
         back = alike_word m n (frame + 4 * h.room - 8) (frame + 4 * h.room) (frame + 4 * h.room - 8) al (omega arith) (omega arith) ∙ w.back;
         code = w.code;
         to = w.to;
+        guard = w.guard;
       },
       below_kept g gs l y m n k f.state.frame callers (omega arith) (record { alike = λ a lo hi. un.0.alike a (omega arith) hi }) un.1 b.1,
     )

@@ -9,7 +9,7 @@ use Rattle.ir_form.specs.Units.{Head}
 use Rattle.rv_flat.specs.declared.linear.Linear.{Linear}
 use Rattle.rv_frames.specs.Frames.{Caller}
 use Rattle.rv_runs.specs.Moments.{Ground}
-use Rattle.rv_layout.proofs.Held.{Layout, lowest, IsFree, Held}
+use Rattle.rv_layout.specs.Held.{Layout, lowest, IsFree, Held}
 use Rattle.rv_layout.proofs.Stores.{below_top, frame_low, clear_under}
 use Rattle.rv_layout.proofs.Ranges.{byte_before, fixed_before, open_left, open_now, inside_range, outside_range}
 

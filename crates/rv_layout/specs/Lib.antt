@@ -3,7 +3,5 @@ pub mod Rooms
 pub mod Moves
 pub mod Calling
 pub mod Words
-pub mod Lengths
-pub mod Text
 pub mod Ready
-pub mod Agrees
+pub mod Held

@@ -84,9 +84,13 @@ call_to address = Lui 7 (upper address) ∷ Jalr 8 7 (lower address) ∷ []
 abbrev pub ask : ℕ → List Instr
 ask service = small 17 service ∷ Ecall ∷ []
 
+-- the program is stopped by an exception whose number and line lie in registers 10 and 11
+abbrev pub stopping : List Instr
+stopping = ask 1
+
 -- the program is stopped by the exception of a number at a line: five instructions
 abbrev pub raising : (kind line : ℕ) → List Instr
-raising kind line = small 10 kind ∷ (long 11 line ++ ask 1)
+raising kind line = small 10 kind ∷ (long 11 line ++ stopping)
 
 -- how many instructions these are
 abbrev pub constant_length : ℕ → ℕ

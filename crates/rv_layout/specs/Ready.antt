@@ -1,8 +1,7 @@
--- What is asked of linear code that is laid out, beside that no run of it is stuck.
-use Rattle.std.specs.Prelude.{◌≡◌, ℕ, ◌+◌, ◌/◌, ◌%◌, ◌<◌, ◌≤◌, length, All}
+-- What is asked of linear code whose instructions keep step with what it does.
+use Rattle.std.specs.Prelude.{◌≡◌, ℕ, ◌+◌, ◌/◌, ◌%◌, ◌<◌, ◌≤◌, All}
 use Rattle.std.specs.Int.{w32}
 use Rattle.std.specs.Int.RustNames.{FitsSigned}
-use Rattle.tu_base.specs.declared.limits.TheConstants.{MOST_TEXT_WORDS}
 use Rattle.ir_form.specs.declared.plain.Plain.{Plain as PlainOp}
 use Rattle.ir_form.specs.declared.plain.Plain.TheVariants.{Constant, Call, Raise, Take}
 use Rattle.ir_form.specs.declared.op.Range.{Range}
@@ -12,9 +11,8 @@ use Rattle.rv_flat.specs.declared.linear.Instruction.TheVariants.{Plain, Within}
 use Rattle.rv_flat.specs.declared.linear.LinearRoutine.{LinearRoutine}
 use Rattle.rv_flat.specs.declared.linear.Linear.{Linear}
 use Rattle.rv_flat.specs.Units.{head_of}
-use Rattle.rv_flat.specs.Parts.{linear_numbers, HasItsLabels, TakesOnce}
+use Rattle.rv_flat.specs.Parts.{linear_numbers, HasItsLabels, TakesOnce, IsUnguarded}
 use Rattle.rv_flat.specs.Lawful.{IsSoundLinear}
-use Rattle.rv_layout.specs.Text.{text_of}
 
 -- A value is in a slot of the room, below its last 32 words. As the numbers of slots are odd, no two values share one.
 pub record InSlot (h : Head) (value : ℕ) : Type 0 where
@@ -49,9 +47,8 @@ pub record IsReadyRoutine (r : LinearRoutine) : Type 0 where
   pub once : TakesOnce r
   pub small : All IsSmall r.code
 
--- and the text is not longer than an image may have it
-pub record IsReady (l : Linear) : Type 0 where
+-- and no guard begins anywhere
+pub record IsReadyCode (l : Linear) : Type 0 where
   pub sound : IsSoundLinear l
+  pub unguarded : IsUnguarded l
   pub routines : All IsReadyRoutine l.routines
-  pub texts : All (λ b. b < 256) l.texts
-  pub size : length (text_of l) ≤ MOST_TEXT_WORDS

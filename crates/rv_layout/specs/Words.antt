@@ -1,5 +1,5 @@
 -- The words of each instruction of linear code.
-use Rattle.std.specs.Prelude.{ℕ, ◌+◌, ◌*◌, List, [], ◌∷◌, ◌++◌}
+use Rattle.std.specs.Prelude.{ℕ, ◌+◌, ◌*◌, List, [], ◌∷◌, ◌++◌, length}
 use Rattle.std.specs.Int.{w32, cast_unsigned}
 use Rattle.tu_base.specs.Kind.{kind_number}
 use Rattle.rv_isa.specs.declared.instr.Instr.{Instr}
@@ -9,19 +9,20 @@ use Rattle.rv_isa.specs.declared.instr.LoadKind.TheVariants.{Word as load_whole,
 use Rattle.rv_isa.specs.declared.instr.StoreKind.{StoreKind}
 use Rattle.rv_isa.specs.declared.instr.StoreKind.TheVariants.{Word as store_whole, Byte as store_byte}
 use Rattle.rv_isa.specs.declared.instr.Relation.TheVariants.{Less}
+use Rattle.rv_isa.specs.declared.instr.Relation.{Relation}
 use Rattle.rv_isa.specs.declared.service.Service.{Service}
 use Rattle.rv_isa.specs.declared.service.Service.TheVariants.{End, Stop, PutConsole, GetConsole, Open, Close, PutStream, GetStream, State}
 use Rattle.ir_form.specs.declared.plain.Width.{Width}
 use Rattle.ir_form.specs.declared.plain.Width.TheVariants.{Byte as one_byte, Word as one_word}
 use Rattle.ir_form.specs.declared.plain.Plain.{Plain as PlainOp}
-use Rattle.ir_form.specs.declared.plain.Plain.TheVariants.{Constant, Global, Heap, Frame, Text, Compute, Load, Store, Ask, Call, Raise, Take, Give}
+use Rattle.ir_form.specs.declared.plain.Plain.TheVariants.{Constant, Global, Heap, Frame, Text, Compute, Load, Store, Ask, Call, Raise, Throw, Take, Give}
 use Rattle.ir_form.specs.declared.op.Range.{Range}
 use Rattle.ir_form.specs.Values.{asked}
 use Rattle.ir_form.specs.Units.{Head}
 use Rattle.rv_flat.specs.declared.linear.Instruction.{Instruction}
-use Rattle.rv_flat.specs.declared.linear.Instruction.TheVariants.{Plain, Branch, Within, Hand, Jump, Label, Back}
+use Rattle.rv_flat.specs.declared.linear.Instruction.TheVariants.{Plain, Guarded, Open as Opens, Branch, Within, Hand, Jump, Label, Back}
 use Rattle.rv_flat.specs.declared.linear.LinearRoutine.{LinearRoutine}
-use Rattle.rv_layout.specs.Pieces.{nothing, constant, long, address_word, go_to, ask, raising}
+use Rattle.rv_layout.specs.Pieces.{nothing, constant, long, address_word, go_to, ask, stopping, raising}
 use Rattle.rv_layout.specs.Rooms.{cut, head_at, load_value, store_value}
 use Rattle.rv_layout.specs.Moves.{handing}
 use Rattle.rv_layout.specs.Calling.{calling, returning, taking, handing_back}
@@ -73,30 +74,41 @@ plain_words a rs h (Store width at from) = load_value h 5 at ++ (load_value h 6 
 plain_words a rs h (Ask to service) = asking h to service
 plain_words a rs h (Call routine arguments to line) = calling (a.entry routine) h (head_at rs routine) arguments to line
 plain_words a rs h (Raise kind line) = raising (kind_number kind) line
+plain_words a rs h (Throw kind line) = load_value h 10 kind ++ (load_value h 11 line ++ stopping)
 plain_words a rs h (Take to words line) = taking a.shared h to words line
 plain_words a rs h (Give words) = handing_back h words
 
--- goes there unless the relation holds
-abbrev pub branching : Head → Instr → (left right : ℕ) → (place : ℕ) → List Instr
-branching h test left right place = load_value h 5 left ++ (load_value h 6 right ++ (test ∷ go_to place))
+-- how many bytes a test skips that stands before so many words
+abbrev pub skip : ℕ → ℕ
+skip words = 4 + 4 * words
 
--- goes there where neither the value is less than the range's first number nor its last one less than the value
-abbrev pub within : Head → (value : ℕ) → Range → (place : ℕ) → List Instr
-within h value range place =
+-- a jump, by these words, unless the relation holds
+abbrev pub branching : Head → Relation → (left right : ℕ) → (jump : List Instr) → List Instr
+branching h relation left right jump = load_value h 5 left ++ (load_value h 6 right ++ (BranchIf relation 5 6 (skip (length jump)) ∷ jump))
+
+-- a jump, by these words, where neither the value is less than the range's first number nor its last one less than the value
+abbrev pub within : Head → (value : ℕ) → Range → (jump : List Instr) → List Instr
+within h value range jump =
     load_value h 5 value
-    ++ (long 6 (cast_unsigned w32 range.low) ++ (BranchIf Less 5 6 24
-    ∷ (long 6 (cast_unsigned w32 range.high) ++ (BranchIf Less 6 5 12 ∷ go_to place))))
+    ++ (long 6 (cast_unsigned w32 range.low) ++ (BranchIf Less 5 6 (skip (3 + length jump))
+    ∷ (long 6 (cast_unsigned w32 range.high) ++ (BranchIf Less 6 5 (skip (length jump)) ∷ jump))))
 
--- of an instruction, where the labels of its routine lie so
-abbrev pub instruction_words : Addresses → List LinearRoutine → Head → (label_at : ℕ → ℕ) → Instruction → List Instr
-instruction_words a rs h label_at (Plain p) = plain_words a rs h p
-instruction_words a rs h label_at (Branch relation left right label) = branching h (BranchIf relation 5 6 12) left right (label_at label)
-instruction_words a rs h label_at (Within value range label) = within h value range (label_at label)
-instruction_words a rs h label_at (Hand to from) = handing h to from
-instruction_words a rs h label_at (Jump label) = go_to (label_at label)
-instruction_words a rs h label_at (Label label marked) = nothing
-instruction_words a rs h label_at (Back values) = returning h values
+-- Of an instruction, where these words jump to each label of its routine. Code without guards is laid out: nothing is said of the last two.
+abbrev pub instruction_words : Addresses → List LinearRoutine → Head → (jump : ℕ → List Instr) → Instruction → List Instr
+instruction_words a rs h jump (Plain p) = plain_words a rs h p
+instruction_words a rs h jump (Branch relation left right label) = branching h relation left right (jump label)
+instruction_words a rs h jump (Within value range label) = within h value range (jump label)
+instruction_words a rs h jump (Hand to from) = handing h to from
+instruction_words a rs h jump (Jump label) = jump label
+instruction_words a rs h jump (Label label marked) = nothing
+instruction_words a rs h jump (Back values) = returning h values
+instruction_words a rs h jump (Guarded p handler) = plain_words a rs h p
+instruction_words a rs h jump (Opens mark) = []
 
-abbrev pub code_words : Addresses → List LinearRoutine → Head → (label_at : ℕ → ℕ) → List Instruction → List Instr
-code_words a rs h label_at [] = []
-code_words a rs h label_at (i ∷ is) = instruction_words a rs h label_at i ++ code_words a rs h label_at is
+abbrev pub code_words : Addresses → List LinearRoutine → Head → (jump : ℕ → List Instr) → List Instruction → List Instr
+code_words a rs h jump [] = []
+code_words a rs h jump (i ∷ is) = instruction_words a rs h jump i ++ code_words a rs h jump is
+
+-- jumps from anywhere to labels that lie so
+abbrev pub far_jump : (label_at : ℕ → ℕ) → (label : ℕ) → List Instr
+far_jump label_at label = go_to (label_at label)

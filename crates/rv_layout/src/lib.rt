@@ -1,4 +1,5 @@
-//! How linear code lies in an image: the words of each instruction, and where they stand.
+//! The instructions of the machine for each instruction of linear code, and that they keep step with it
+//! where they stand.
 //!
 //! | register | what it has |
 //! |---|---|
@@ -15,4 +16,4 @@
 
 mod laws;
 
-pub use laws::{image_agrees, image_is_allowed, text_is_measured};
+pub use laws::laid_code_keeps_step;

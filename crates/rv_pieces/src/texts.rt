@@ -1,7 +1,7 @@
 // Bytes behind the code.
 
 ghost use Rattle.std.specs.Prelude.{◌≡◌, ◌+◌, ◌*◌, ◌++◌, OnOk};
-ghost use Rattle.rv_layout.specs.Text.{packed};
+ghost use Rattle.rv_text.specs.Text.{packed};
 
 use crate::output::Output;
 use tu_base::Memory;

@@ -12,7 +12,8 @@ use Rattle.rv_isa.specs.Step.{Cpu, Outcome, Goes, Asks, Faults, step}
 use Rattle.rv_image.specs.Streams.{Folder, Closed, Holding, Stream, Free, Reading, Writing, World, Over, Served, Finishes, Replies, served, got, opens, opens_at, reads, closes, puts, gets, stream, with_stream, free_stream, is_file_name, is_named, bytes_at}
 use Rattle.rv_image.specs.Run.{Going, run, continued, resumed, answered, verdict_of}
 use Rattle.rv_runs.specs.Moments.{Ground, Moment, Live, Finished, Broken, told, heard, next_moment, later}
-use Rattle.rv_runs.specs.Laws.{Grows, Shows, IsUnderway, run_on, world_at, verdict_at}
+use Rattle.tu_base.specs.Prefix.{IsPrefix}
+use Rattle.rv_runs.specs.Laws.{Shows, IsUnderway, run_on, world_at, verdict_at}
 
 pub later_add : (g : Ground) (a b : ℕ) (m : Moment) → later g (a + b) m ≡ later g b (later g a m)
 later_add g zero b m = let e : 0 + b ≡ b = omega arith in ap (λ n. later g n m) e
@@ -71,18 +72,18 @@ goes_on g (suc k) n count c d w x h =
     rw (a, ← b) (on_heard g k n count d w x (step g.space c) (goes_on g k) h)
 
 -- traces grow
-pub grows_none : (w : World) → Grows w.trace w.trace
-grows_none w = record { more = []; is = sym (append-nil w.trace) }
+pub grows_none : (w : World) → IsPrefix w.trace w.trace
+grows_none w = record { rest = []; is = sym (append-nil w.trace) }
 
-pub grows_then : (u v w : World) → Grows u.trace v.trace → Grows v.trace w.trace → Grows u.trace w.trace
-grows_then u v w a b = record { more = a.more ++ b.more; is = b.is ∙ ap (λ t. t ++ b.more) a.is ∙ append_assoc u.trace a.more b.more }
+pub grows_then : (u v w : World) → IsPrefix u.trace v.trace → IsPrefix v.trace w.trace → IsPrefix u.trace w.trace
+grows_then u v w a b = record { rest = a.rest ++ b.rest; is = b.is ∙ ap (λ t. t ++ b.rest) a.is ∙ append_assoc u.trace a.rest b.rest }
 
 abbrev world_served : Served → World
 world_served (Finishes how w) = w
 world_served (Replies reply w) = w
 
 abbrev Goes_from : World → Served → Type 0
-Goes_from w sv = Grows w.trace (world_served sv).trace
+Goes_from w sv = IsPrefix w.trace (world_served sv).trace
 
 either : (w : World) (b : Bool) (x y : Served) → Goes_from w x → Goes_from w y → Goes_from w (cond b x y)
 either w true x y f h = f
@@ -105,7 +106,7 @@ opens_grow folder w name mode =
 close_grows : (w : World) (i : ℕ) (s : Stream) → Goes_from w (closes w i s)
 close_grows w i Free = grows_none w
 close_grows w i (Reading name left) = grows_none w
-close_grows w i (Writing name contents) = record { more = _; is = refl }
+close_grows w i (Writing name contents) = record { rest = _; is = refl }
 
 put_grows : (w : World) (i : ℕ) (bytes : List ℕ) (s : Stream) → Goes_from w (puts w i bytes s)
 put_grows w i bytes Free = grows_none w
@@ -120,13 +121,13 @@ get_grows w i (Reading name (b ∷ left)) = grows_none w
 get_grows w i (Writing name contents) = grows_none w
 
 got_grows : (w : World) (left : List ℕ) → Goes_from w (got w left)
-got_grows w [] = record { more = _; is = refl }
-got_grows w (b ∷ left) = record { more = _; is = refl }
+got_grows w [] = record { rest = _; is = refl }
+got_grows w (b ∷ left) = record { rest = _; is = refl }
 
 served_grows : (folder : Folder) (m : Memory) (what : Service) (w : World) → Goes_from w (served folder m what w)
-served_grows folder m End w = record { more = _; is = refl }
-served_grows folder m (Stop kind line) w = record { more = _; is = refl }
-served_grows folder m (PutConsole at size) w = record { more = _; is = refl }
+served_grows folder m End w = record { rest = _; is = refl }
+served_grows folder m (Stop kind line) w = record { rest = _; is = refl }
+served_grows folder m (PutConsole at size) w = record { rest = _; is = refl }
 served_grows folder m GetConsole w = got_grows w w.left
 served_grows folder m (Open at size mode) w = opens_grow folder (record w { opened = true }) (bytes_at m at size) mode
 served_grows folder m (Close i) w = close_grows w i (stream w i)
@@ -138,24 +139,24 @@ told_world : (c : Cpu) (sv : Served) → world_at (told c sv) ≡ world_served s
 told_world c (Finishes how w) = refl
 told_world c (Replies reply w) = refl
 
-heard_grows : (g : Ground) (w : World) (o : Outcome) → Grows w.trace (world_at (heard g.folder w o)).trace
+heard_grows : (g : Ground) (w : World) (o : Outcome) → IsPrefix w.trace (world_at (heard g.folder w o)).trace
 heard_grows g w (Goes to) = grows_none w
-heard_grows g w (Asks what to) = subst (λ v. Grows w.trace v.trace) (sym (told_world to (served g.folder to.memory what w))) (served_grows g.folder to.memory what w)
+heard_grows g w (Asks what to) = subst (λ v. IsPrefix w.trace v.trace) (sym (told_world to (served g.folder to.memory what w))) (served_grows g.folder to.memory what w)
 heard_grows g w (Faults why at) = grows_none w
 
-next_grows : (g : Ground) (m : Moment) → Grows (world_at m).trace (world_at (next_moment g m)).trace
+next_grows : (g : Ground) (m : Moment) → IsPrefix (world_at m).trace (world_at (next_moment g m)).trace
 next_grows g (Live c w) = heard_grows g w (step g.space c)
 next_grows g (Finished how w) = grows_none w
 next_grows g (Broken why pc w) = grows_none w
 
-pub later_grows : (g : Ground) (n : ℕ) (m : Moment) → Grows (world_at m).trace (world_at (later g n m)).trace
+pub later_grows : (g : Ground) (n : ℕ) (m : Moment) → IsPrefix (world_at m).trace (world_at (later g n m)).trace
 later_grows g zero m = grows_none (world_at m)
 later_grows g (suc n) m = grows_then (world_at m) (world_at (next_moment g m)) (world_at (later g n (next_moment g m))) (next_grows g m) (later_grows g n (next_moment g m))
 
-pub grows_between : (g : Ground) (a b : ℕ) (m : Moment) → a ≤ b → Grows (world_at (later g a m)).trace (world_at (later g b m)).trace
-grows_between g a b m le = subst (λ x. Grows (world_at (later g a m)).trace (world_at x).trace) (sym (later_from g a b m le)) (later_grows g (b - a) (later g a m))
+pub grows_between : (g : Ground) (a b : ℕ) (m : Moment) → a ≤ b → IsPrefix (world_at (later g a m)).trace (world_at (later g b m)).trace
+grows_between g a b m le = subst (λ x. IsPrefix (world_at (later g a m)).trace (world_at x).trace) (sym (later_from g a b m le)) (later_grows g (b - a) (later g a m))
 
-pub trace_grows : (g : Ground) (k n count : ℕ) (c : Cpu) (w : World) → k ≤ n → Grows (run_on g k count c w).world.trace (run_on g n count c w).world.trace
+pub trace_grows : (g : Ground) (k n count : ℕ) (c : Cpu) (w : World) → k ≤ n → IsPrefix (run_on g k count c w).world.trace (run_on g n count c w).world.trace
 trace_grows g k n count c w le =
     let a = (run_shows g k count c w).world in
     let b = (run_shows g n count c w).world in
@@ -175,7 +176,7 @@ underway g k n count c d w x h le =
     let on = goes_on g n 0 count c at.0 w at.1 at.2 in
     let z : n + 0 ≡ n = omega arith in
     let r : run_on g n count c w ≡ record { verdict = Going; count = count + n; world = at.1 } = rw z at on in
-    rw r (record { going = refl; counted = refl; so_far = subst (λ m. Grows (world_at m).trace x.trace) at.2 (subst (λ m. Grows (world_at (later g n (Live c w))).trace (world_at m).trace) h (grows_between g n k (Live c w) le)) })
+    rw r (record { going = refl; counted = refl; so_far = subst (λ m. IsPrefix (world_at m).trace x.trace) at.2 (subst (λ m. IsPrefix (world_at (later g n (Live c w))).trace (world_at m).trace) h (grows_between g n k (Live c w) le)) })
 
 -- where the host ends a run
 ends_told : (g : Ground) (n count : ℕ) (c : Cpu) (how : Over) (v : World) (sv : Served) → told c sv ≡ Finished how v → resumed (run g.folder g.space n (count + 1)) (count + 1) c sv ≡ record { verdict = verdict_of how; count = count + 1; world = v }

@@ -1,15 +1,10 @@
 -- What the run of so many instructions is, by how it stands then.
-use Rattle.std.specs.Prelude.{◌≡◌, ℕ, ◌+◌, ◌<◌, ◌≤◌, ◌++◌}
-use Rattle.tu_base.specs.Trace.{Trace}
+use Rattle.std.specs.Prelude.{◌≡◌, ℕ, ◌+◌, ◌<◌, ◌≤◌}
+use Rattle.tu_base.specs.Prefix.{IsPrefix}
 use Rattle.rv_isa.specs.Step.{Cpu}
 use Rattle.rv_image.specs.Streams.{World, Over}
 use Rattle.rv_image.specs.Run.{MachineVerdict, Fault, Going, Ran, run, verdict_of}
 use Rattle.rv_runs.specs.Moments.{Ground, Moment, Live, Finished, Broken, later}
-
--- now is before, and more behind it
-pub record Grows (before now : Trace) : Type 0 where
-  pub more : Trace
-  pub is : now ≡ before ++ more
 
 abbrev pub world_at : Moment → World
 world_at (Live c w) = w
@@ -40,7 +35,7 @@ RunGoesOn = (g : Ground) (k n count : ℕ) (c d : Cpu) (w x : World) → later g
 pub record IsUnderway (r : Ran) (count : ℕ) (x : World) : Type 0 where
   pub going : r.verdict ≡ Going
   pub counted : r.count ≡ count
-  pub so_far : Grows r.world.trace x.trace
+  pub so_far : IsPrefix r.world.trace x.trace
 
 abbrev pub RunIsUnderway : Type 0
 RunIsUnderway = (g : Ground) (k n count : ℕ) (c d : Cpu) (w x : World) → later g k (Live c w) ≡ Live d x → n ≤ k → IsUnderway (run_on g n count c w) (count + n) x
@@ -52,4 +47,4 @@ RunIsOver = (g : Ground) (k n count : ℕ) (c d : Cpu) (w x v : World) (how : Ov
 
 -- what is done stays done
 abbrev pub TraceGrows : Type 0
-TraceGrows = (g : Ground) (k n count : ℕ) (c : Cpu) (w : World) → k ≤ n → Grows (run_on g k count c w).world.trace (run_on g n count c w).world.trace
+TraceGrows = (g : Ground) (k n count : ℕ) (c : Cpu) (w : World) → k ≤ n → IsPrefix (run_on g k count c w).world.trace (run_on g n count c w).world.trace

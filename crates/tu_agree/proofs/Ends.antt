@@ -2,9 +2,9 @@
 use Rattle.std.proofs.Common.{◌≡◌, ◌≢◌, ℕ, ◌+◌, ◌≤◌, refl, sym, ◌∙◌, subst, arith}
 use Rattle.tu_base.specs.declared.event.Verdict.{Verdict}
 use Rattle.tu_base.specs.declared.event.Verdict.TheVariants.{Going as verdict_going}
-use Rattle.rv_image.specs.Run.{MachineVerdict, Ended, Stopped, Fault, Going, Ran, machine_run}
-use Rattle.tu_meaning.specs.Meaning.{Meant}
-use Rattle.tu_agree.specs.Agrees.{AgreesWithin, IsOver, SameEnd, IsEnough, machine_verdict}
+use Rattle.rv_image.specs.Run.{MachineVerdict, Ended, Stopped, Fault, Going, Ran, machine_run, IsOver, machine_verdict}
+use Rattle.tu_tree_meaning.specs.Meaning.{Meant}
+use Rattle.tu_agree.specs.Agrees.{AgreesWithin, SameEnd, IsEnough}
 use Rattle.tu_agree.specs.Laws.{MeaningIsRun}
 
 -- what neither faults nor goes on is over

@@ -5,11 +5,11 @@ use Rattle.rv_isa.specs.Step.{with_any, step}
 use Rattle.rv_image.specs.Start.{no_registers}
 use Rattle.rv_image.specs.Streams.{Folder, start_world}
 use Rattle.rv_image.specs.Run.{Ended, Going, machine_run, run}
-use Rattle.tu_meaning.specs.Steps.{give}
-use Rattle.tu_meaning.specs.Programs.{meaning}
-use Rattle.tu_meaning.specs.Prefix.{IsPrefix}
+use Rattle.tu_tree_meaning.specs.Steps.{give}
+use Rattle.tu_tree_meaning.specs.Programs.{meaning}
+use Rattle.tu_base.specs.Prefix.{IsPrefix}
 use Rattle.tu_agree.specs.Agrees.{over_folder}
-use Rattle.tu_agree.specs.Outcomes.{Outcome, outcome_ran, program_meant, image_meant}
+use Rattle.tu_agree.specs.Outcomes.{CodeOutcome, outcome_ran, program_meant, image_meant}
 use Rattle.tu_agree.specs.Keep.{Eventually, KeepsRun, KeepsInstructions}
 use Rattle.tu_agree.specs.Example.{empty_program, stands, halting}
 
@@ -22,8 +22,8 @@ unfolding run
 begins input folder = refl
 
 -- what a program without statements comes to
-ended : Outcome
-ended = stands Ended 0
+ended : CodeOutcome
+ended = stands Ended 0 0
 
 empty : IsPrefix {A = _} ended.trace ended.trace
 unfolding ended
@@ -40,6 +40,7 @@ keeps_run input folder zero = subst (λ r. KeepsRun 1 1 0 (λ t s. ended) (outco
   spent = λ going t. always _ (λ s enough. absurd (omega arith));
   nothing_else = always _ (λ s. record { rest = []; is = refl });
   nothing_held_back = λ t. always _ (λ s enough. record { rest = []; is = refl });
+  covers = omega arith;
   paid = λ going. refl;
 }
 keeps_run input folder (suc n) = subst (λ r. KeepsRun 1 1 (suc n) (λ t s. ended) (outcome_ran r)) (sym (halts input folder n)) record {
@@ -48,6 +49,7 @@ keeps_run input folder (suc n) = subst (λ r. KeepsRun 1 1 (suc n) (λ t s. ende
   spent = λ going t. cc;
   nothing_else = always _ (λ s. record { rest = []; is = refl });
   nothing_held_back = λ t. always _ (λ s enough. record { rest = []; is = refl });
+  covers = omega arith;
   paid = λ going. cc;
 }
 

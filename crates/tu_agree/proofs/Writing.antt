@@ -2,26 +2,26 @@
 use Rattle.std.proofs.Common.{◌≡◌, ◌≢◌, ℕ, zero, suc, ◌+◌, ◌*◌, ◌<◌, ◌≤◌, ◌⊎◌, inl, inr, List, [], ◌∷◌, length, map, reverse, refl, sym, ap, ◌∙◌, subst, arith}
 use Rattle.tu_base.specs.Trace.{Trace, Put}
 use Rattle.rv_isa.specs.declared.service.FaultKind.{FaultKind}
-use Rattle.rv_image.specs.Run.{Ended, Fault, Going}
-use Rattle.tu_meaning.specs.Prefix.{IsPrefix}
-use Rattle.tu_agree.specs.Agrees.{IsOver}
-use Rattle.tu_agree.specs.Outcomes.{Outcome}
-use Rattle.tu_agree.specs.Keep.{SameAnswer, KeepsAnswer, KeepsThere, KeepsTurns, KeepsRun, KeepsInstructions}
+use Rattle.rv_image.specs.Run.{Ended, Fault, Going, IsOver}
+use Rattle.tu_base.specs.Prefix.{IsPrefix}
+use Rattle.tu_agree.specs.Outcomes.{CodeOutcome}
+use Rattle.tu_agree.specs.Keep.{SameOutcome, KeepsAnswer, KeepsThere, KeepsTurns, KeepsRun, KeepsInstructions}
 use Rattle.tu_agree.proofs.Everywhere.{kept_everywhere}
 use Rattle.tu_agree.specs.Example.{wrote, written, text_meant, unstacked, stack_meant, ran, words_meant}
 
 -- one more byte before what is kept
-answer_more : (byte t s : ℕ) (before after : Outcome) → KeepsAnswer 3 2 t s before after → KeepsAnswer 3 2 (suc t) (suc s) (wrote byte 1 before) (wrote byte 3 after)
+answer_more : (byte t s : ℕ) (before after : CodeOutcome) → KeepsAnswer 3 2 t s before after → KeepsAnswer 3 2 (suc t) (suc s) (wrote byte 1 1 before) (wrote byte 3 2 after)
 answer_more byte t s before after kept = record {
   same = record { trace = ap (λ trace. Put byte ∷ trace) kept.same.trace; verdict = kept.same.verdict };
   cost = let cost : after.cost ≤ 3 * before.cost + 2 = kept.cost in omega arith;
+  covers = let covers : after.begun ≤ after.cost = kept.covers in omega arith;
   paid = λ going. elim (kept.paid going) [ inl le ↦ inl (omega arith) | inr le ↦ inr (omega arith) ];
 }
 
 -- with a round for each byte
 text_kept : (bytes : List ℕ) (t s : ℕ) → length bytes ≤ s → KeepsAnswer 3 2 t s (written bytes t) (unstacked bytes t s)
-text_kept [] t s le = record { same = record { trace = refl; verdict = refl }; cost = omega arith; paid = λ going. cc }
-text_kept (byte ∷ bytes) zero s le = record { same = record { trace = refl; verdict = refl }; cost = omega arith; paid = λ going. inl (omega arith) }
+text_kept [] t s le = record { same = record { trace = refl; verdict = refl }; cost = omega arith; covers = omega arith; paid = λ going. cc }
+text_kept (byte ∷ bytes) zero s le = record { same = record { trace = refl; verdict = refl }; cost = omega arith; covers = omega arith; paid = λ going. inl (omega arith) }
 text_kept (byte ∷ bytes) (suc t) zero le = absurd (omega arith)
 text_kept (byte ∷ bytes) (suc t) (suc s) le = answer_more byte t s (written bytes t) (unstacked bytes t s) (text_kept bytes t s (omega arith))
 
@@ -40,11 +40,17 @@ unstacked_paid (byte ∷ bytes) zero s going = inl (omega arith)
 unstacked_paid (byte ∷ bytes) (suc t) zero going = inr (omega arith)
 unstacked_paid (byte ∷ bytes) (suc t) (suc s) going = elim (unstacked_paid bytes t s going) [ inl le ↦ inl (omega arith) | inr le ↦ inr (omega arith) ]
 
+unstacked_covers : (bytes : List ℕ) (t s : ℕ) → (unstacked bytes t s).begun ≤ (unstacked bytes t s).cost
+unstacked_covers [] t s = omega arith
+unstacked_covers (byte ∷ bytes) zero s = omega arith
+unstacked_covers (byte ∷ bytes) (suc t) zero = omega arith
+unstacked_covers (byte ∷ bytes) (suc t) (suc s) = let covers : (unstacked bytes t s).begun ≤ (unstacked bytes t s).cost = unstacked_covers bytes t s in omega arith
+
 pub same_keeps : (stack : List ℕ) → KeepsTurns 1 0 (stack_meant stack) (stack_meant stack)
-same_keeps stack = kept_everywhere 1 0 (stack_meant stack) (stack_meant stack) (λ g a fits. fits) (λ g a fits input folder t s. record { same = record { trace = refl; verdict = refl }; cost = omega arith; paid = unstacked_paid (reverse stack) t s })
+same_keeps stack = kept_everywhere 1 0 (stack_meant stack) (stack_meant stack) (λ g a fits. fits) (λ g a fits input folder t s. record { same = record { trace = refl; verdict = refl }; cost = omega arith; covers = unstacked_covers (reverse stack) t s; paid = unstacked_paid (reverse stack) t s })
 
 -- how the machine stands: it has ended, with all of it written, or it has run n instructions of those that it needs
-data Stands (bytes : List ℕ) (needs n : ℕ) (o : Outcome) : Type 0 where
+data Stands (bytes : List ℕ) (needs n : ℕ) (o : CodeOutcome) : Type 0 where
   Over : o.verdict ≡ Ended → o.trace ≡ map Put bytes → needs ≤ n → Stands bytes needs n o
   Underway : o.verdict ≡ Going → o.cost ≡ n → n < needs → Stands bytes needs n o
 
@@ -69,7 +75,7 @@ machine_stands [] zero (suc n) = Over refl refl (omega arith)
 machine_stands (byte ∷ bytes) zero (suc n) = put byte bytes n (machine_stands bytes 5 n)
 
 -- how a stack stands: it has ended, with all of it written, or it needs more turns or more rounds
-data Unstacks (bytes : List ℕ) (t s : ℕ) (o : Outcome) : Type 0 where
+data Unstacks (bytes : List ℕ) (t s : ℕ) (o : CodeOutcome) : Type 0 where
   All : o.verdict ≡ Ended → o.trace ≡ map Put bytes → o.cost ≡ 3 * length bytes + 2 → Unstacks bytes t s o
   Part : o.verdict ≡ Going → (t < length bytes) ⊎ (s < length bytes) → Unstacks bytes t s o
 
@@ -84,27 +90,33 @@ stack_stands (byte ∷ bytes) (suc t) zero = Part refl (inr (omega arith))
 stack_stands (byte ∷ bytes) (suc t) (suc s) = unstacks_more byte bytes t s (stack_stands bytes t s)
 
 -- with as many turns and rounds as there are bytes the stack is over, and so it is as the machine is
-same_end : (bytes : List ℕ) (t s n needs : ℕ) (before after : Outcome) → length bytes ≤ t → length bytes ≤ s → Unstacks bytes t s before → Stands bytes needs n after → IsOver after.verdict → SameAnswer before after
+same_end : (bytes : List ℕ) (t s n needs : ℕ) (before after : CodeOutcome) → length bytes ≤ t → length bytes ≤ s → Unstacks bytes t s before → Stands bytes needs n after → IsOver after.verdict → SameOutcome before after
 same_end bytes t s n needs before after turns rounds (All v tr c) (Over verdict trace le) over = record { trace = trace ∙ sym tr; verdict = verdict ∙ sym v }
 same_end bytes t s n needs before after turns rounds (Part v few) (Over verdict trace le) over = absurd (elim few [ inl lt ↦ omega arith | inr lt ↦ omega arith ])
 same_end bytes t s n needs before after turns rounds before_stands (Underway verdict cost lt) over = absurd (subst IsOver verdict over)
 
-same_end_within : (bytes : List ℕ) (n s : ℕ) → length bytes ≤ s → IsOver (ran bytes 5 n).verdict → SameAnswer (unstacked bytes n s) (ran bytes 5 n)
+same_end_within : (bytes : List ℕ) (n s : ℕ) → length bytes ≤ s → IsOver (ran bytes 5 n).verdict → SameOutcome (unstacked bytes n s) (ran bytes 5 n)
 unfolding needed
 same_end_within bytes n s rounds over = over_at (machine_stands bytes 5 n) where
-  over_at : Stands bytes (needed bytes 5) n (ran bytes 5 n) → SameAnswer (unstacked bytes n s) (ran bytes 5 n)
+  over_at : Stands bytes (needed bytes 5) n (ran bytes 5 n) → SameOutcome (unstacked bytes n s) (ran bytes 5 n)
   over_at (Over verdict trace le) = same_end bytes n s n (needed bytes 5) (unstacked bytes n s) (ran bytes 5 n) (omega arith) rounds (stack_stands bytes n s) (Over verdict trace le) over
   over_at (Underway verdict cost lt) = absurd (subst IsOver verdict over)
 
-no_fault : (bytes : List ℕ) (needs n : ℕ) (o : Outcome) → Stands bytes needs n o → (kind : FaultKind) (pc : ℕ) → o.verdict ≢ Fault kind pc
+no_fault : (bytes : List ℕ) (needs n : ℕ) (o : CodeOutcome) → Stands bytes needs n o → (kind : FaultKind) (pc : ℕ) → o.verdict ≢ Fault kind pc
 no_fault bytes needs n o (Over verdict trace le) kind pc = λ e. cc
 no_fault bytes needs n o (Underway verdict cost lt) kind pc = λ e. cc
 
-paid : (bytes : List ℕ) (needs n : ℕ) (o : Outcome) → Stands bytes needs n o → o.verdict ≡ Going → o.cost ≡ n
+paid : (bytes : List ℕ) (needs n : ℕ) (o : CodeOutcome) → Stands bytes needs n o → o.verdict ≡ Going → o.cost ≡ n
 paid bytes needs n o (Over verdict trace le) going = cc
 paid bytes needs n o (Underway verdict cost lt) going = cost
 
-spent : (bytes : List ℕ) (t s n : ℕ) (before after : Outcome) → Unstacks bytes t s before → Stands bytes (6 * length bytes + 6) n after → after.verdict ≡ Going → 2 * before.cost + 2 ≤ n → before.verdict ≡ Going
+ran_covers : (bytes : List ℕ) (waits n : ℕ) → (ran bytes waits n).begun ≤ (ran bytes waits n).cost
+ran_covers bytes waits zero = omega arith
+ran_covers bytes (suc waits) (suc n) = let covers : (ran bytes waits n).begun ≤ (ran bytes waits n).cost = ran_covers bytes waits n in omega arith
+ran_covers [] zero (suc n) = omega arith
+ran_covers (byte ∷ bytes) zero (suc n) = let covers : (ran bytes 5 n).begun ≤ (ran bytes 5 n).cost = ran_covers bytes 5 n in omega arith
+
+spent : (bytes : List ℕ) (t s n : ℕ) (before after : CodeOutcome) → Unstacks bytes t s before → Stands bytes (6 * length bytes + 6) n after → after.verdict ≡ Going → 2 * before.cost + 2 ≤ n → before.verdict ≡ Going
 spent bytes t s n before after (Part v few) stands going le = v
 spent bytes t s n before after (All v tr c) (Over verdict trace enough) going le = cc
 spent bytes t s n before after (All v tr c) (Underway verdict cost lt) going le = absurd (omega arith)
@@ -141,6 +153,7 @@ keeps_run bytes n = record {
   spent = λ going t. record { least = 0; holds = λ s le enough. spent bytes t s n (unstacked bytes t s) (ran bytes 5 n) (stack_stands bytes t s) (machine_stands bytes 5 n) going enough };
   nothing_else = record { least = length bytes; holds = λ s le. prefix bytes 5 n n s (omega arith) le };
   nothing_held_back = λ t. record { least = 0; holds = λ s le enough. shown bytes 5 n t s (omega arith) };
+  covers = ran_covers bytes 5 n;
   paid = paid bytes (needed bytes 5) n (ran bytes 5 n) (machine_stands bytes 5 n);
 }
 

@@ -2,16 +2,14 @@
 -- that this is the same for every language.
 use Rattle.std.specs.Prelude.{◌≡◌, ◌≢◌, ℕ, ◌+◌, ◌*◌, ◌≤◌, List, Option, Some, None}
 use Rattle.tu_base.specs.Files.{Files}
-use Rattle.tu_base.specs.Kind.{kind_number}
-use Rattle.tu_base.specs.declared.event.Verdict.{Verdict}
-use Rattle.tu_base.specs.declared.event.Verdict.TheVariants.{Ended as verdict_ended, Stopped as verdict_stopped, Going as verdict_going}
+use Rattle.tu_base.specs.declared.event.Verdict.TheVariants.{Going as verdict_going}
 use Rattle.rv_isa.specs.declared.service.FaultKind.{FaultKind}
 use Rattle.rv_image.specs.Picture.{Picture}
 use Rattle.rv_image.specs.Streams.{Folder, Closed, Holding}
-use Rattle.rv_image.specs.Run.{MachineVerdict, Ended, Stopped, Fault, Going, Ran, machine_run}
-use Rattle.tu_meaning.specs.Meaning.{Meant}
-use Rattle.tu_meaning.specs.Laws.{Meaning}
-use Rattle.tu_meaning.specs.Prefix.{IsPrefix}
+use Rattle.rv_image.specs.Run.{Fault, Going, IsOver, machine_verdict, Ran, machine_run}
+use Rattle.tu_tree_meaning.specs.Meaning.{Meant}
+use Rattle.tu_tree_meaning.specs.Laws.{Meaning}
+use Rattle.tu_base.specs.Prefix.{IsPrefix}
 
 -- the files that can be opened, if any can
 abbrev pub files_in : Folder → Option Files
@@ -21,19 +19,6 @@ files_in (Holding files) = Some files
 -- a meaning over files, as one over a folder
 abbrev pub over_folder : Meaning (Option Files) → Meaning Folder
 over_folder meaning input folder = meaning input (files_in folder)
-
--- the verdict as a machine gives it, with the number of the exception
-abbrev pub machine_verdict : Verdict → MachineVerdict
-machine_verdict verdict_ended = Ended
-machine_verdict (verdict_stopped kind line) = Stopped (kind_number kind) line
-machine_verdict verdict_going = Going
-
--- a run has ended or was stopped
-abbrev pub IsOver : MachineVerdict → Type 0
-IsOver Ended = Unit {0}
-IsOver (Stopped kind line) = Unit {0}
-IsOver (Fault kind pc) = ⊥
-IsOver Going = ⊥
 
 -- The run and the meaning are over in the same way. The files that they leave are the same too, since `files_of` makes them of the trace.
 pub record SameEnd (run : Ran) (meant : Meant) : Type 0 where

@@ -3,9 +3,9 @@ use Rattle.std.specs.Prelude.{◌≡◌, ◌≢◌, ℕ, ◌≤◌, List}
 use Rattle.tu_base.specs.declared.event.Verdict.TheVariants.{Going as verdict_going}
 use Rattle.rv_image.specs.Picture.{Picture}
 use Rattle.rv_image.specs.Streams.{Folder}
-use Rattle.rv_image.specs.Run.{Going, machine_run}
-use Rattle.tu_meaning.specs.Laws.{Meaning, IsFinal}
-use Rattle.tu_agree.specs.Agrees.{Agrees, IsOver, SameEnd, IsEnough}
+use Rattle.rv_image.specs.Run.{Going, machine_run, IsOver}
+use Rattle.tu_tree_meaning.specs.Laws.{Meaning, IsFinal}
+use Rattle.tu_agree.specs.Agrees.{Agrees, SameEnd, IsEnough}
 use Rattle.tu_agree.specs.Keep.{KeepsInstructions}
 use Rattle.tu_agree.specs.Outcomes.{program_meant, image_meant}
 

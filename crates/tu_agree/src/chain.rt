@@ -4,7 +4,7 @@ ghost use Rattle.rv_image.specs.Streams.{Folder};
 ghost use Rattle.tu_agree.specs.Agrees.{Agrees};
 ghost use Rattle.tu_agree.specs.Keep.{Instructions, Turns};
 ghost use Rattle.tu_agree.specs.Outcomes.{image_meant, program_meant};
-ghost use Rattle.tu_meaning.specs.Laws.{Meaning};
+ghost use Rattle.tu_tree_meaning.specs.Laws.{Meaning};
 
 use crate::Pass;
 use std::alloc::Global;

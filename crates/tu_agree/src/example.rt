@@ -7,7 +7,7 @@ ghost use Rattle.tu_agree.specs.Agrees.{Agrees, over_folder};
 ghost use Rattle.tu_agree.specs.Example.{empty_program, text_meant, stack_meant, words_meant, halting};
 ghost use Rattle.tu_agree.specs.Keep.{Instructions, KeepsInstructions, Turns};
 ghost use Rattle.tu_agree.specs.Outcomes.{image_meant, program_meant};
-ghost use Rattle.tu_meaning.specs.Programs.{meaning};
+ghost use Rattle.tu_tree_meaning.specs.Programs.{meaning};
 
 use crate::{Both, Follows, Pass, compile};
 use rv_image::Image;

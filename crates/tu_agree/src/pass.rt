@@ -1,6 +1,6 @@
 ghost use Rattle.std.specs.Prelude.{ℕ, IfOk};
 ghost use Rattle.tu_agree.specs.Keep.{Bound, Keeps};
-ghost use Rattle.tu_agree.specs.Outcomes.{Meaning};
+ghost use Rattle.tu_agree.specs.Outcomes.{CodeMeaning};
 
 use std::alloc::Global;
 use tu_base::Memory;
@@ -25,9 +25,9 @@ pub trait Pass {
     ghost START: { ℕ };
 
     /// What a code means, before the pass and after it.
-    ghost meant_before: { Self.Before → Meaning };
+    ghost meant_before: { Self.Before → CodeMeaning };
 
-    ghost meant_after: { Self.After → Meaning };
+    ghost meant_after: { Self.After → CodeMeaning };
 
     /// Whether turns or instructions bound a run of what the pass makes: the form of its law.
     ghost bound: { Bound };

@@ -13,7 +13,8 @@ use Rattle.rv_flat.specs.declared.linear.Linear.{Linear}
 use Rattle.rv_flat.specs.Lawful.{IsLawful as IsLawfulLinear}
 use Rattle.rv_alloc.specs.declared.assigned.Assigned.{Assigned}
 use Rattle.rv_alloc.specs.Keeps.{IsLawful as IsLawfulAssigned}
-use Rattle.tu_compile.specs.Meant.{place_at, fits_at, TestsPlaces, given, region_meant, linear_meant, assigned_meant, NeverFaults}
+use Rattle.rv_text.specs.Agrees.{code_verdict}
+use Rattle.tu_compile.specs.Meant.{place_at, fits_at, TestsPlaces, region_meant, linear_meant, assigned_meant, NeverFaults}
 
 at_most : (a b : ℕ) → Decides (nat_le a b) (a ≤ b)
 at_most a b = (λ e. grind (arith, nat_tests), λ h. grind (arith, nat_tests))
@@ -29,7 +30,7 @@ pub tests_places : TestsPlaces
 tests_places texts g a = decides_place texts g a
 
 -- only a run that is stuck faults
-never_faults : (v : Verdict) → v ≢ Stuck → (kind : FaultKind) (pc : ℕ) → given v ≢ Fault kind pc
+never_faults : (v : Verdict) → v ≢ Stuck → (kind : FaultKind) (pc : ℕ) → code_verdict v ≢ Fault kind pc
 never_faults Ended h kind pc = λ e. cc
 never_faults (Stopped k line) h kind pc = λ e. cc
 never_faults Going h kind pc = λ e. cc

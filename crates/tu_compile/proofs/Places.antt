@@ -1,19 +1,17 @@
 -- What holds of linear code holds of its assigned code, and of what that becomes.
 use Rattle.std.proofs.Common.{◌≡◌, ◌≤◌, sym, subst, length}
-use Rattle.std.specs.Prelude.{All}
 use Rattle.std.specs.List.{AllZip}
 use Rattle.rv_image.specs.Picture.{Picture}
 use Rattle.ir_form.specs.declared.unit.Unit.{Unit as RegionUnit}
-use Rattle.rv_flat.specs.declared.linear.LinearRoutine.{LinearRoutine}
 use Rattle.rv_flat.specs.declared.linear.Linear.{Linear}
 use Rattle.rv_flat.specs.Lawful.{IsLawful as IsLawfulLinear}
-use Rattle.rv_flat.specs.Parts.{HasItsLabels, TakesOnce, KeepsParts}
+use Rattle.rv_flat.specs.Parts.{KeepsParts, IsUnguarded}
 use Rattle.rv_flat.specs.Size.{linear_size}
 use Rattle.rv_alloc.specs.declared.assigned.Assigned.{Assigned}
 use Rattle.rv_alloc.specs.Assigned.{placed_code, assigned_size}
 use Rattle.rv_alloc.specs.Holds.{Holds, HoldsRoutine, IsSlotted, HasRoom}
 use Rattle.rv_alloc.specs.Keeps.{IsLawful as IsLawfulAssigned}
-use Rattle.rv_layout.specs.Text.{image_of}
+use Rattle.rv_text.specs.Text.{image_of}
 use Rattle.tu_compile.specs.Ready.{most_words, most_texts, IsReadyLinear, IsAssigned, IsFlattened, IsPlacedCode, IsImageOfUnit}
 
 pub is_assigned : (linear : Linear) (a : Assigned) → IsReadyLinear linear → Holds linear a → AllZip IsSlotted linear.routines a.places → (IsLawfulLinear linear → AllZip HasRoom linear.routines a.places) → (IsLawfulLinear linear → IsLawfulAssigned a) → assigned_size a ≡ linear_size linear → IsAssigned linear a
@@ -22,8 +20,7 @@ is_assigned linear a before holds slots room lawful size =
     record {
       ready = record {
         lawful = lawful before.lawful;
-        labels = subst (λ (l : Linear). All (λ (r : LinearRoutine). HasItsLabels r.code) l.routines) same before.labels;
-        taken_once = subst (λ (l : Linear). All TakesOnce l.routines) same before.taken_once;
+        unguarded = subst IsUnguarded same before.unguarded;
         places = subst (λ (l : Linear). AllZip HoldsRoutine l.routines a.places) same holds.routines;
         slots = subst (λ (l : Linear). AllZip IsSlotted l.routines a.places) same slots;
         room = subst (λ (l : Linear). AllZip HasRoom l.routines a.places) same (room before.lawful);

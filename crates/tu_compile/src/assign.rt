@@ -8,7 +8,7 @@ ghost use Rattle.tu_compile.specs.Ready.{IsAssigned, IsReadyLinear};
 
 use crate::flat::Flat;
 use rv_alloc::Assigned;
-use rv_flat::{Linear, going_is_paid};
+use rv_flat::{Linear, cost_covers_rounds, going_is_paid};
 use std::alloc::Global;
 use tu_agree::{Follows, Pass};
 use tu_base::Memory;
@@ -42,6 +42,7 @@ impl Pass for Assign {
     #[tactic(auto, using(crate::proofs::Places::is_assigned))]
     fn pass(alloc: Global, before: &Linear) -> Result<Assigned, Memory> {
         // Assigned code means what linear code over the numbers of its places does.
+        cost_covers_rounds();
         going_is_paid();
         rv_alloc::assign(alloc, before)
     }

@@ -3,7 +3,7 @@
 ghost use Rattle.std.proofs.Common.{lit<};
 ghost use Rattle.std.specs.Prelude.{refl, IfOk};
 ghost use Rattle.tu_agree.specs.Agrees.{Agrees, over_folder};
-ghost use Rattle.tu_meaning.specs.Programs.{meaning};
+ghost use Rattle.tu_tree_meaning.specs.Programs.{meaning};
 
 use crate::chain::Chain;
 use crate::generate::Generate;
@@ -25,7 +25,7 @@ impl Follows<Generate> for Chain {
     ghost start_fits = { lit< tt };
 }
 
-/// From a checked program to an image. What it costs is at most 120 for each unit, and 212 once.
+/// From a checked program to an image. What it costs is at most 1,000 for each unit, and 512 once.
 pub type Compiler = Both<Generate, Chain>;
 
 /// An image that agrees with a checked program. It fails only for want of memory.

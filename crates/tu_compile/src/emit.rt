@@ -2,7 +2,7 @@
 
 ghost use Rattle.std.specs.Prelude.{◌≡◌};
 ghost use Rattle.rv_alloc.specs.Assigned.{placed_code};
-ghost use Rattle.rv_layout.specs.Text.{image_of};
+ghost use Rattle.rv_text.specs.Text.{image_of};
 ghost use Rattle.tu_agree.specs.Keep.{Instructions};
 ghost use Rattle.tu_agree.specs.Outcomes.{image_meant};
 ghost use Rattle.tu_compile.specs.Meant.{assigned_meant};

@@ -5,7 +5,7 @@ ghost use Rattle.tu_compile.specs.Meant.{linear_meant, region_meant};
 ghost use Rattle.tu_compile.specs.Ready.{IsFlattened, IsReadyUnit};
 
 use ir_form::Unit;
-use rv_flat::{Linear, going_is_paid};
+use rv_flat::{Linear, cost_covers_rounds, going_is_paid};
 use std::alloc::Global;
 use tu_agree::Pass;
 use tu_base::Memory;
@@ -37,6 +37,7 @@ impl Pass for Flat {
     ghost gives = { IsFlattened };
 
     fn pass(alloc: Global, before: &Unit) -> Result<Linear, Memory> {
+        cost_covers_rounds();
         going_is_paid();
         rv_flat::flat(alloc, before)
     }

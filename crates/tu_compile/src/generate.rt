@@ -1,6 +1,8 @@
 // The pass that makes region code of a program.
 
 ghost use Rattle.std.specs.Prelude.{◌≡◌};
+ghost use Rattle.ir_build.specs.Keeps.{factor};
+ghost use Rattle.ir_stmt.specs.Unit.{start};
 ghost use Rattle.tu_agree.specs.Keep.{Turns};
 ghost use Rattle.tu_compile.specs.Meant.{region_meant, tree_meant};
 ghost use Rattle.tu_compile.specs.Ready.{IsReadyUnit};
@@ -11,7 +13,8 @@ use tu_agree::Pass;
 use tu_base::Memory;
 use tu_check::Checked;
 
-/// From a checked program to region code, which costs at most 120 for each of the program's units.
+/// From a checked program to region code, which costs at most 1,000 for each of the program's units, and
+/// 500 once.
 pub struct Generate;
 
 impl Pass for Generate {
@@ -19,13 +22,13 @@ impl Pass for Generate {
 
     type After = Unit;
 
-    const SLOW: u64 = 120;
+    const SLOW: u64 = 1000;
 
-    const START: u64 = 200;
+    const START: u64 = 500;
 
-    ghost SLOW = { 120 };
+    ghost SLOW = { factor };
 
-    ghost START = { 200 };
+    ghost START = { start };
 
     ghost meant_before = { tree_meant };
 
@@ -39,6 +42,7 @@ impl Pass for Generate {
 
     #[tactic(auto, using(crate::proofs::Generating::keeps_program, crate::proofs::Generating::is_ready))]
     fn pass(alloc: Global, before: &Checked) -> Result<Unit, Memory> {
+        ir_form::laws::cost_covers_rounds();
         ir_form::laws::going_is_paid();
         ir_stmt::unit(alloc, before)
     }

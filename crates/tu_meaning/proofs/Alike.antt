@@ -1,38 +1,41 @@
 -- Two runs side by side, over two stores and two numbers of turns: one relation, and one lemma for each word that a program is made of.
-use Rattle.std.proofs.Common.{◌≡◌, ℕ, suc, ◌+◌, ◌<◌, ◌≤◌, Bool, true, false, [], ◌++◌, ◌⊎◌, inl, inr, refl, sym, ◌∙◌, ap, subst, arith, append_assoc, nat_lt, nat_le, if◌then◌else◌}
+use Rattle.std.proofs.Common.{◌≡◌, ℕ, suc, ◌+◌, ◌<◌, ◌≤◌, Bool, true, false, List, [], ◌++◌, ◌⊎◌, inl, inr, refl, sym, ◌∙◌, ap, subst, arith, append_assoc, nat_lt, nat_le, if◌then◌else◌}
 use Rattle.std.proofs.lemmas.List.{append-nil}
 use Rattle.std.proofs.lemmas.Bool.Decides.{nat_tests}
 use Rattle.tu_base.specs.Trace.{Trace}
 use Rattle.tu_base.specs.declared.kind.Kind.{Kind}
 use Rattle.tu_base.specs.declared.kind.Kind.TheVariants.{Storage}
-use Rattle.tu_meaning.specs.Steps.{Added, nothing, joined, State, Outcome, Done, Raised, Going, Step, adding, after, turned, closing, taken, give, raise, stop, look, change, pay, happen, turn, take_room, most_rooms, scope, handled, ◌>>=◌}
+use Rattle.tu_meaning.specs.Steps.{Note, Added, nothing, one_unit, limit_passed, joined, World, State, Outcome, Done, Raised, Going, NoRule, Step, adding, after, turned, closing, taken, give, raise, stop, lost, look, change, consult, pay, happen, note, turn, take_room, most_rooms, scope, handled, ◌>>=◌}
 
 -- y is x, and what was added behind it
 pub record Longer (x y : Added) : Type 0 where
   pub more : Trace
   pub trace : y.trace ≡ x.trace ++ more
   pub units : x.units ≤ y.units
+  pub later : List Note
+  pub log : y.log ≡ x.log ++ later
 
 pub longer_refl : (x : Added) → Longer x x
-longer_refl x = record { more = []; trace = sym (append-nil x.trace); units = omega arith }
+longer_refl x = record { more = []; trace = sym (append-nil x.trace); units = omega arith; later = []; log = sym (append-nil x.log) }
 
 longer_nothing : (x : Added) → Longer nothing x
-longer_nothing x = record { more = x.trace; trace = refl; units = omega arith }
+longer_nothing x = record { more = x.trace; trace = refl; units = omega arith; later = x.log; log = refl }
 
 longer_joined : (x y z : Added) → Longer x y → Longer x (joined y z)
-longer_joined x y z h = record { more = h.more ++ z.trace; trace = ap (λ e. e ++ z.trace) h.trace ∙ append_assoc x.trace h.more z.trace; units = omega arith }
+longer_joined x y z h = record { more = h.more ++ z.trace; trace = ap (λ e. e ++ z.trace) h.trace ∙ append_assoc x.trace h.more z.trace; units = omega arith; later = h.later ++ z.log; log = ap (λ e. e ++ z.log) h.log ∙ append_assoc x.log h.later z.log }
 
 longer_under : (x y z : Added) → Longer y z → Longer (joined x y) (joined x z)
-longer_under x y z h = record { more = h.more; trace = ap (λ e. x.trace ++ e) h.trace ∙ sym (append_assoc x.trace y.trace h.more); units = omega arith }
+longer_under x y z h = record { more = h.more; trace = ap (λ e. x.trace ++ e) h.trace ∙ sym (append_assoc x.trace y.trace h.more); units = omega arith; later = h.later; log = ap (λ e. x.log ++ e) h.log ∙ sym (append_assoc x.log y.log h.later) }
 
 -- the same state with another store
 abbrev pub with_store : {S S' : Type 0} → State S → S' → State S'
-with_store s r = record { store = r; counts = s.counts; outside = s.outside }
+with_store s r = record { store = r; counts = s.counts; world = s.world }
 
 abbrev pub IsOut : {S A : Type 0} → Outcome S A → Type 0
 IsOut (Done a s) = ⊥
 IsOut (Raised kind line s) = ⊥
 IsOut (Going s) = Unit {0}
+IsOut (NoRule s) = ⊥
 
 -- Within t turns on the left and t' on the right; Raise holds of the stores where an exception is raised.
 module _ (S S' : Type 0) (t t' : ℕ) (Raise : S → S' → Type 0) where
@@ -47,6 +50,7 @@ module _ (S S' : Type 0) (t t' : ℕ) (Raise : S → S' → Type 0) where
   Alike u T Q x (Done a s) r = (store : S') × (r ≡ (x, Done a (with_store s store))) × T s.store store × Q a × (u ≤ s.counts.turns) × (s.counts.turns ≤ t)
   Alike u T Q x (Raised kind line s) r = (store : S') × (r ≡ (x, Raised kind line (with_store s store))) × Raise s.store store × (u ≤ s.counts.turns) × (s.counts.turns ≤ t)
   Alike u T Q x (Going s) r = Cut x r × (s.counts.turns ≡ t)
+  Alike u T Q x (NoRule s) r = (store : S') × (r ≡ (x, NoRule (with_store s store))) × (u ≤ s.counts.turns) × (s.counts.turns ≤ t)
 
   -- from stores that R relates, m and m' have the same end, where m is as deep as the turns that are left
   pub record Sim (n : ℕ) (R T : S → S' → Type 0) (A : Type 0) (Q : A → Type 0) (m : Step S A) (m' : Step S' A) : Type 0 where
@@ -60,6 +64,7 @@ module _ (S S' : Type 0) (t t' : ℕ) (Raise : S → S' → Type 0) where
   alike_adding T A Q u v x y (Done a s) r le h = (h.0, ap (λ z. adding x z) h.1, h.2, h.3, omega (arith, h.4), h.5)
   alike_adding T A Q u v x y (Raised kind line s) r le h = (h.0, ap (λ z. adding x z) h.1, h.2, omega (arith, h.3), h.4)
   alike_adding T A Q u v x y (Going s) r le h = (cut_adding A x y r h.0, h.1)
+  alike_adding T A Q u v x y (NoRule s) r le h = (h.0, ap (λ z. adding x z) h.1, omega (arith, h.2), h.3)
 
   cut_after : (A B : Type 0) (x : Added) (r : Added × Outcome S' A) (f : A → Step S' B) → Cut x r → Cut x (after r.0 r.1 f)
   cut_after A B x r f h = by r.1 h.reason
@@ -68,12 +73,14 @@ module _ (S S' : Type 0) (t t' : ℕ) (Raise : S → S' → Type 0) where
       longer (Done a s) = longer_joined x r.0 (f a s).0 h.longer
       longer (Raised kind line s) = h.longer
       longer (Going s) = h.longer
+      longer (NoRule s) = h.longer
 
       by : (o : Outcome S' A) → (t < t') ⊎ ((x ≡ r.0) × IsOut o) → Cut x (after r.0 o f)
       by o (inl w) = record { longer = longer o; reason = inl w }
       by (Done a s) (inr e) = absurd e.1
       by (Raised kind line s) (inr e) = absurd e.1
       by (Going s) (inr e) = record { longer = h.longer; reason = inr e }
+      by (NoRule s) (inr e) = absurd e.1
 
   alike_after : (n : ℕ) (T U : S → S' → Type 0) (A B : Type 0) (Q : A → Type 0) (Z : B → Type 0) (u : ℕ) (x : Added) (o : Outcome S A) (r : Added × Outcome S' A) (f : A → Step S B) (f' : A → Step S' B) → t ≤ n + u → ((a : A) → Q a → Sim n T U B Z (f a) (f' a)) → Alike u T Q x o r → Alike u U Z (after x o f).0 (after x o f).1 (after r.0 r.1 f')
   alike_after n T U A B Q Z u x (Done a s) r f f' le each h =
@@ -81,6 +88,7 @@ module _ (S S' : Type 0) (t t' : ℕ) (Raise : S → S' → Type 0) where
       (alike_adding U B Z u s.counts.turns x (f a s).0 (f a s).1 (f' a (with_store s h.0)) h.4 ((each a h.3).by s h.0 (omega (arith, le, h.4)) h.5 h.2))
   alike_after n T U A B Q Z u x (Raised kind line s) r f f' le each h = (h.0, ap (λ z. after z.0 z.1 f') h.1, h.2, h.3, h.4)
   alike_after n T U A B Q Z u x (Going s) r f f' le each h = (cut_after A B x r f' h.0, h.1)
+  alike_after n T U A B Q Z u x (NoRule s) r f f' le each h = (h.0, ap (λ z. after z.0 z.1 f') h.1, h.2, h.3)
 
 -- the words
 module _ {S S' : Type 0} {t t' : ℕ} {Raise : S → S' → Type 0} {n : ℕ} where
@@ -106,6 +114,10 @@ module _ {S S' : Type 0} {t t' : ℕ} {Raise : S → S' → Type 0} {n : ℕ} wh
   unfolding change
   sim_change f f' h = record { by = λ s r le within rel. (f' r, refl, h s.store r rel, tt, omega arith, within) }
 
+  pub sim_consult : {R : S → S' → Type 0} {A : Type 0} (f : World → A × World) → Sim S S' t t' Raise n R R A (λ _. Unit {0}) (consult f) (consult f)
+  unfolding consult
+  sim_consult f = record { by = λ s r le within rel. (r, refl, rel, tt, omega arith, within) }
+
   pub sim_pay : {R : S → S' → Type 0} (units : ℕ) → Sim S S' t t' Raise n R R (Unit {0}) (λ _. Unit {0}) (pay units) (pay units)
   unfolding pay
   sim_pay units = record { by = λ s r le within rel. (r, refl, rel, tt, omega arith, within) }
@@ -113,6 +125,14 @@ module _ {S S' : Type 0} {t t' : ℕ} {Raise : S → S' → Type 0} {n : ℕ} wh
   pub sim_happen : {R : S → S' → Type 0} (actions : Trace) → Sim S S' t t' Raise n R R (Unit {0}) (λ _. Unit {0}) (happen actions) (happen actions)
   unfolding happen
   sim_happen actions = record { by = λ s r le within rel. (r, refl, rel, tt, omega arith, within) }
+
+  pub sim_note : {R : S → S' → Type 0} (tells : Note) → Sim S S' t t' Raise n R R (Unit {0}) (λ _. Unit {0}) (note tells) (note tells)
+  unfolding note
+  sim_note tells = record { by = λ s r le within rel. (r, refl, rel, tt, omega arith, within) }
+
+  pub sim_lost : {R T : S → S' → Type 0} {A : Type 0} {Q : A → Type 0} → Sim S S' t t' Raise n R T A Q lost lost
+  unfolding lost
+  sim_lost = record { by = λ s r le within rel. (r, refl, omega arith, within) }
 
   pub sim_if : {R T : S → S' → Type 0} {A : Type 0} {Q : A → Type 0} {m k : Step S A} {m' k' : Step S' A} (b : Bool) → (b ≡ true → Sim S S' t t' Raise n R T A Q m m') → (b ≡ false → Sim S S' t t' Raise n R T A Q k k') → Sim S S' t t' Raise n R T A Q (if b then m else k) (if b then m' else k')
   sim_if true h g = h refl
@@ -127,7 +147,7 @@ module _ {S S' : Type 0} {t t' : ℕ} {Raise : S → S' → Type 0} {n : ℕ} wh
   sim_room {R} room line h = record { by = λ s r le within rel. alike (nat_le (s.counts.rooms + room) most_rooms) s r within rel }
     where
       result : {S : Type 0} → Bool → State S → Added × Outcome S (Unit {0})
-      result b s = if b then (nothing, Done tt (record s { counts = record s.counts { rooms = s.counts.rooms + room } })) else (nothing, Raised Storage line s)
+      result b s = if b then (nothing, Done tt (record s { counts = record s.counts { rooms = s.counts.rooms + room } })) else (limit_passed, Raised Storage line s)
 
       alike : (b : Bool) (s : State S) (r : S') → s.counts.turns ≤ t → R s.store r → Alike S S' t t' Raise s.counts.turns R (λ _. Unit {0}) (result b s).0 (result b s).1 (result b (with_store s r))
       alike true s r within rel = (r, refl, rel, tt, omega arith, within)
@@ -144,7 +164,7 @@ sim_stop = record { by = λ s r le within rel. (record { longer = longer_refl no
 
 -- a turn where b, and what follows it
 begin_turn : {S : Type 0} → Bool → State S → Added × Outcome S (Unit {0})
-begin_turn b s = if b then (record { trace = []; units = 1 }, Done tt (record s { counts = turned s.counts })) else (nothing, Going s)
+begin_turn b s = if b then (one_unit, Done tt (record s { counts = turned s.counts })) else (nothing, Going s)
 
 abbrev begun : {S B : Type 0} → (Unit {0} → Step S B) → Bool → State S → Added × Outcome S B
 begun f b s = after (begin_turn b s).0 (begin_turn b s).1 f
@@ -170,7 +190,7 @@ module _ {S S' : Type 0} {t t' : ℕ} {Raise : S → S' → Type 0} where
       alike true true s r under over under' over' le within rel =
           let s' : State S = record s { counts = turned s.counts } in
           let lt : s.counts.turns < t = under refl in
-          alike_adding S S' t t' Raise U B Z s.counts.turns (s.counts.turns + 1) (record { trace = []; units = 1 }) (f tt s').0 (f tt s').1 (f' tt (with_store s' r)) (omega arith) ((each tt).by s' r (omega arith) (omega arith) rel)
+          alike_adding S S' t t' Raise U B Z s.counts.turns (s.counts.turns + 1) one_unit (f tt s').0 (f tt s').1 (f' tt (with_store s' r)) (omega arith) ((each tt).by s' r (omega arith) (omega arith) rel)
       alike true false s r under over under' over' le within rel = absurd (let lt : s.counts.turns < t = under refl in let ge : t' ≤ s.counts.turns = over' refl in omega (arith, more, lt, ge))
       alike false b' s r under over under' over' le within rel =
           let ge : t ≤ s.counts.turns = over refl in
@@ -188,6 +208,7 @@ sim_scope {S} {S'} {t} {t'} {n} {A} {Outer} {Inner} {R} {T} {U} {V} {Q} {m} {m'}
     alike : (o : State S) (q : S') → R o.store q → (x : Added) (e : Outcome S A) (r : Added × Outcome S' A) → Alike S S' t t' Inner o.counts.turns U Q x e r → Alike S S' t t' Outer o.counts.turns V Q x (closing leave o e) (r.0, closing leave' (with_store o q) r.1)
     alike o q rel x (Done a s) r h = (leave' q h.0, ap (λ z. (z.0, closing leave' (with_store o q) z.1)) h.1, closes o.store s.store q h.0 rel h.2, h.3, h.4, h.5)
     alike o q rel x (Raised kind line s) r h = (leave' q h.0, ap (λ z. (z.0, closing leave' (with_store o q) z.1)) h.1, fails o.store s.store q h.0 rel h.2, h.3, h.4)
+    alike o q rel x (NoRule s) r h = (h.0, ap (λ z. (z.0, closing leave' (with_store o q) z.1)) h.1, h.2, h.3)
     alike o q rel x (Going s) r h = (by r.1 h.0.reason, h.1)
       where
         by : (e : Outcome S' A) → (t < t') ⊎ ((x ≡ r.0) × IsOut e) → Cut S S' t t' Outer x (r.0, closing leave' (with_store o q) e)
@@ -195,6 +216,7 @@ sim_scope {S} {S'} {t} {t'} {n} {A} {Outer} {Inner} {R} {T} {U} {V} {Q} {m} {m'}
         by (Done a s) (inr e) = absurd e.1
         by (Raised kind line s) (inr e) = absurd e.1
         by (Going s) (inr e) = record { longer = h.0.longer; reason = inr e }
+        by (NoRule s) (inr e) = absurd e.1
 
 -- an exception is taken: the handler begins in the stores where it was raised
 pub sim_handled : {S S' : Type 0} {t t' n : ℕ} {A : Type 0} {Outer Inner R T : S → S' → Type 0} {Q : A → Type 0} {m : Step S A} {m' : Step S' A} {g : Kind → ℕ → Step S A} {g' : Kind → ℕ → Step S' A} → Sim S S' t t' Inner n R T A Q m m' → ((kind : Kind) (line : ℕ) → Sim S S' t t' Outer n Inner T A Q (g kind line) (g' kind line)) → Sim S S' t t' Outer n R T A Q (handled m g) (handled m' g')
@@ -208,15 +230,18 @@ sim_handled {S} {S'} {t} {t'} {n} {A} {Outer} {Inner} {R} {T} {Q} {m} {m'} {g} {
     alike u le x (Raised kind line s) r h =
         subst (λ z. Alike S S' t t' Outer u T Q (joined x (g kind line s).0) (g kind line s).1 (taken z.0 z.1 g')) (sym h.1)
         (alike_adding S S' t t' Outer T A Q u s.counts.turns x (g kind line s).0 (g kind line s).1 (g' kind line (with_store s h.0)) h.3 ((each kind line).by s h.0 (omega (arith, le, h.3)) h.4 h.2))
+    alike u le x (NoRule s) r h = (h.0, ap (λ z. taken z.0 z.1 g') h.1, h.2, h.3)
     alike u le x (Going s) r h = (by r.1 h.0.reason, h.1)
       where
         longer : (e : Outcome S' A) → Longer x (taken r.0 e g').0
         longer (Done a s) = h.0.longer
         longer (Raised kind line s) = longer_joined x r.0 (g' kind line s).0 h.0.longer
         longer (Going s) = h.0.longer
+        longer (NoRule s) = h.0.longer
 
         by : (e : Outcome S' A) → (t < t') ⊎ ((x ≡ r.0) × IsOut e) → Cut S S' t t' Outer x (taken r.0 e g')
         by e (inl w) = record { longer = longer e; reason = inl w }
         by (Done a s) (inr e) = absurd e.1
         by (Raised kind line s) (inr e) = absurd e.1
         by (Going s) (inr e) = record { longer = h.0.longer; reason = inr e }
+        by (NoRule s) (inr e) = absurd e.1

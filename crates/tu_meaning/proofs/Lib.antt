@@ -1,6 +1,9 @@
--- of this crate alone
-mod Sources
-mod ProgramRows
 mod Alike
+mod WordForms
 mod Forms
 mod ProgramLaws
+mod Tests
+mod Finds
+mod FindsForms
+mod NeverStuck
+mod rows

@@ -1,78 +1,116 @@
 -- The laws of the meaning of programs: the same run, or a longer one.
-use Rattle.std.proofs.Common.{◌≡◌, ◌≢◌, ℕ, ◌+◌, ◌≤◌, List, [], Option, ◌⊎◌, inl, inr, refl, sym, ap, subst, arith}
-use Rattle.std.specs.Prelude.{◌<◌}
-use Rattle.tu_base.specs.Files.{Files}
-use Rattle.tu_base.specs.declared.event.Verdict.TheVariants.{Going as verdict_going}
-use Rattle.tu_token.specs.Rules.{r-program}
-use Rattle.tu_token.specs.Syntax.{Of}
-use Rattle.tu_meaning.specs.Laws.{IsFinal, TraceGrows, UnitsGrow}
-use Rattle.tu_meaning.specs.Meaning.{meant}
-use Rattle.tu_meaning.specs.ProgramLaws.{BeganTurns, TurnsAreExact, DepthIsEnough}
-use Rattle.tu_meaning.specs.Programs.{start, execution, meaning}
-use Rattle.tu_meaning.specs.Steps.{Added, Outcome, Done, Raised, Going}
-use Rattle.tu_meaning.specs.Store.{Store, unset_store, by_copying}
-use Rattle.tu_meaning.proofs.Alike.{Alike, IsOut, Longer, longer_refl}
-use Rattle.tu_meaning.proofs.Forms.{Any, Kept, sim_program}
+use Rattle.std.proofs.Common.{◌≡◌, ◌≢◌, ◌<◌, ℕ, ◌+◌, ◌≤◌, List, [], ◌++◌, Option, None, ◌⊎◌, inl, inr, refl, sym, ◌∙◌, ap, arith, append_assoc}
+use Rattle.std.proofs.lemmas.List.{append-nil}
+use Rattle.tu_base.specs.Prefix.{IsPrefix}
+use Rattle.tu_base.specs.Shapes.{all_words}
+use Rattle.tu_base.specs.Streams.{Folder}
+use Rattle.tu_core.specs.Core.{Program}
+use Rattle.tu_core.specs.Rooms.{scalars_from}
+use Rattle.tu_meaning.specs.Laws.{BeganTurns, KeepsTurns}
+use Rattle.tu_meaning.specs.Meaning.{Meant, GoesOn, meant, last_kept}
+use Rattle.tu_meaning.specs.Programs.{start, execution_over}
+use Rattle.tu_meaning.specs.Words.{Flow}
+use Rattle.tu_meaning.specs.Steps.{Added, Outcome, Done, Raised, Going, NoRule}
+use Rattle.tu_meaning.specs.Store.{Passing}
+use Rattle.tu_meaning.proofs.Alike.{Alike, IsOut}
+use Rattle.tu_meaning.proofs.WordForms.{Any}
+use Rattle.tu_meaning.proofs.Forms.{Kept, sim_parts, sim_calls}
 
-abbrev Same : Store → Store → Type 0
-Same s r = s ≡ r
+both : {A B C : Type 0} (f : A → B → C) {a a' : A} {b b' : B} → a ≡ a' → b ≡ b' → f a b ≡ f a' b'
+both f {a} {a'} {b} {b'} e d = ap (λ x. f x b) e ∙ ap (f a') d
 
-kept : (t u : ℕ) → t ≤ u → Kept Store Store by_copying by_copying t u Same
-kept t u le = record {
-  more = le;
-  fetch = λ place s r e. ap (λ x. by_copying.fetch x place) e;
-  assign = λ place v s r e. ap (λ x. by_copying.assign x place v) e;
-  declare = λ x v s r e. ap (λ y. by_copying.declare y x v) e;
+-- a beginning of what is meant, at no greater cost
+record Grows (m m' : Meant) : Type 0 where
+  trace : IsPrefix m.trace m'.trace
+  log : IsPrefix m.log m'.log
+  units : m.units ≤ m'.units
+
+grows_same : (m m' : Meant) → m' ≡ m → Grows m m'
+grows_same m m' e = record {
+  trace = record { rest = []; is = ap (λ z. z.trace) e ∙ sym (append-nil m.trace) };
+  log = record { rest = []; is = ap (λ z. z.log) e ∙ sym (append-nil m.log) };
+  units = omega (arith, ap (λ z. z.units) e);
 }
 
--- a run beside one with no fewer turns and no smaller depth
-alike : (program : Of r-program) (input : List ℕ) (files : Option Files) (t u n m : ℕ) → t ≤ u → n ≤ m → t ≤ n → Alike Store Store t u Same 0 Same Any (execution program input files t n).0 (execution program input files t n).1 (execution program input files u m)
-alike program input files t u n m le deeper enough =
-    (sim_program Store Store by_copying by_copying t u Same (kept t u le) n m deeper [] program).by (start program input files) unset_store (omega (arith, enough)) (omega arith) refl
+module _ (S : Type 0) (p : Passing S) (store : S) where
+  abbrev Same : S → S → Type 0
+  Same s r = s ≡ r
 
-module _ (t u : ℕ) (x : Added) (r : Added × Outcome Store (Unit {0})) where
-  -- what is over is the same
-  settled : (o : Outcome Store (Unit {0})) → Alike Store Store t u Same 0 Same Any x o r → (meant (x, o)).verdict ≢ verdict_going → meant r ≡ meant (x, o)
-  settled (Done a s) h over = ap (λ z. meant z) h.1
-  settled (Raised kind line s) h over = ap (λ z. meant z) h.1
-  settled (Going s) h over = absurd (over refl)
+  kept : (t u : ℕ) → t ≤ u → Kept S S p p t u Same
+  kept t u le = record {
+    more = le;
+    fetch = λ q s r e. ap (λ x. p.fetch x q) e;
+    bounds = λ root s r e. ap (λ x. p.bounds x root) e;
+    assign = λ q content s r e. ap (λ x. p.assign x q content) e;
+    declare = λ root h s r e. ap (λ x. p.declare x root h) e;
+    enter = λ actuals s r e. ap (λ x. p.enter actuals x) e;
+    leave = λ actuals o s o' r d e. both (λ x y. p.leave actuals x y) d e;
+    bind = λ is_var x q s r e. ap (λ y. p.bind is_var x q y) e;
+    unbind = λ is_var x q s r e. ap (λ y. p.unbind is_var x q y) e;
+  }
 
-  longer : (o : Outcome Store (Unit {0})) → Alike Store Store t u Same 0 Same Any x o r → Longer x r.0
-  longer (Done a s) h = subst (λ z. Longer x z.0) (sym h.1) (longer_refl x)
-  longer (Raised kind line s) h = subst (λ z. Longer x z.0) (sym h.1) (longer_refl x)
-  longer (Going s) h = h.0.longer
+  abbrev run_of : Program → List ℕ → Option Folder → (t depth : ℕ) → Added × Outcome S Flow
+  run_of program input files t depth = execution_over S p store program input files t depth
 
-  turns : (o : Outcome Store (Unit {0})) → Alike Store Store t u Same 0 Same Any x o r → BeganTurns t o
-  turns (Done a s) h = h.5
-  turns (Raised kind line s) h = h.4
-  turns (Going s) h = h.1
+  abbrev means : Program → List ℕ → Option Folder → ℕ → Meant
+  means program input files t = meant (run_of program input files t t)
 
-  -- with no more turns all is the same
-  unmoved : (o : Outcome Store (Unit {0})) → ¬ (t < u) → Alike Store Store t u Same 0 Same Any x o r → meant r ≡ meant (x, o)
-  unmoved (Done a s) none h = ap (λ z. meant z) h.1
-  unmoved (Raised kind line s) none h = ap (λ z. meant z) h.1
-  unmoved (Going s) none h = by r.1 h.0.reason
-    where
-      by : (e : Outcome Store (Unit {0})) → (t < u) ⊎ ((x ≡ r.0) × IsOut e) → meant (r.0, e) ≡ meant {A = Unit {0}} (x, Going s)
-      by e (inl w) = absurd (none w)
-      by (Done a z) (inr e) = absurd e.1
-      by (Raised kind line z) (inr e) = absurd e.1
-      by (Going z) (inr e) = ap (λ (y : Added). record { trace = y.trace; verdict = verdict_going; units = y.units }) (sym e.0)
+  -- a run beside one with no fewer turns and no smaller depth
+  alike : (program : Program) (input : List ℕ) (files : Option Folder) (t u n m : ℕ) → t ≤ u → n ≤ m → t ≤ n → Alike S S t u Same 0 Same Any (run_of program input files t n).0 (run_of program input files t n).1 (run_of program input files u m)
+  alike program input files t u n m le deeper enough =
+      let k = kept t u le in
+      let words = all_words program.shapes in
+      (sim_parts S S p p t u Same k program words n m deeper _ _ (sim_calls S S p p t u Same k program words n m deeper) (scalars_from program.shapes 0 program.locals) None program.main).by
+      (start store words program input files) store (omega (arith, enough)) (omega arith) refl
 
-pub is_final : (program : Of r-program) → IsFinal (meaning program)
-is_final program input files t u le = settled t u _ (execution program input files u u) _ (alike program input files t u t u le le (omega arith))
+  module _ (t u : ℕ) (x : Added) (r : Added × Outcome S Flow) where
+    -- what is over is the same
+    over : (o : Outcome S Flow) → Alike S S t u Same 0 Same Any x o r → (meant (x, o)).standing ≢ GoesOn → meant r ≡ meant (x, o)
+    over (Done a s) h done = ap (λ z. meant z) h.1
+    over (Raised kind line s) h done = ap (λ z. meant z) h.1
+    over (Going s) h done = absurd (done refl)
+    over (NoRule s) h done = ap (λ z. meant z) h.1
 
-one_more : (program : Of r-program) (input : List ℕ) (files : Option Files) (t : ℕ) → Longer (execution program input files t t).0 (execution program input files (t + 1) (t + 1)).0
-one_more program input files t = longer t (t + 1) _ (execution program input files (t + 1) (t + 1)) _ (alike program input files t (t + 1) t (t + 1) (omega arith) (omega arith) (omega arith))
+    -- what was added so far, and what came later, with what is kept at the end
+    grows : (o : Outcome S Flow) → Alike S S t u Same 0 Same Any x o r → Grows (meant (x, o)) (meant r)
+    grows (Done a s) h = grows_same (meant (x, Done a s)) (meant r) (ap (λ z. meant z) h.1)
+    grows (Raised kind line s) h = grows_same (meant {A = Flow} (x, Raised kind line s)) (meant r) (ap (λ z. meant z) h.1)
+    grows (Going s) h = record {
+      trace = record { rest = h.0.longer.more ++ last_kept r.1; is = ap (λ z. z ++ last_kept r.1) h.0.longer.trace ∙ append_assoc x.trace h.0.longer.more (last_kept r.1) ∙ ap (λ z. z ++ (h.0.longer.more ++ last_kept r.1)) (sym (append-nil x.trace)) };
+      log = record { rest = h.0.longer.later; is = h.0.longer.log };
+      units = h.0.longer.units;
+    }
+    grows (NoRule s) h = grows_same (meant {A = Flow} (x, NoRule s)) (meant r) (ap (λ z. meant z) h.1)
 
-pub trace_grows : (program : Of r-program) → TraceGrows (meaning program)
-trace_grows program input files t = record { rest = (one_more program input files t).more; is = (one_more program input files t).trace }
+    turns : (o : Outcome S Flow) → Alike S S t u Same 0 Same Any x o r → BeganTurns t o
+    turns (Done a s) h = h.5
+    turns (Raised kind line s) h = h.4
+    turns (Going s) h = h.1
+    turns (NoRule s) h = h.3
 
-pub units_grow : (program : Of r-program) → UnitsGrow (meaning program)
-units_grow program input files t = (one_more program input files t).units
+    -- with no more turns all is the same
+    unmoved : (o : Outcome S Flow) → ¬ (t < u) → Alike S S t u Same 0 Same Any x o r → meant r ≡ meant (x, o)
+    unmoved (Done a s) none h = ap (λ z. meant z) h.1
+    unmoved (Raised kind line s) none h = ap (λ z. meant z) h.1
+    unmoved (NoRule s) none h = ap (λ z. meant z) h.1
+    unmoved (Going s) none h = by r.1 h.0.reason
+      where
+        by : (e : Outcome S Flow) → (t < u) ⊎ ((x ≡ r.0) × IsOut e) → meant (r.0, e) ≡ meant {A = Flow} (x, Going s)
+        by e (inl w) = absurd (none w)
+        by (Done a z) (inr e) = absurd e.1
+        by (Raised kind line z) (inr e) = absurd e.1
+        by (NoRule z) (inr e) = absurd e.1
+        by (Going z) (inr e) = ap (λ (y : Added). record { trace = y.trace ++ []; standing = GoesOn; units = y.units; log = y.log }) (sym e.0)
 
-pub turns_are_exact : TurnsAreExact
-turns_are_exact program input files t = turns t t _ (execution program input files t t) _ (alike program input files t t t t (omega arith) (omega arith) (omega arith))
+  one_more : (program : Program) (input : List ℕ) (files : Option Folder) (t : ℕ) → Grows (means program input files t) (means program input files (t + 1))
+  one_more program input files t = grows t (t + 1) _ (run_of program input files (t + 1) (t + 1)) _ (alike program input files t (t + 1) t (t + 1) (omega arith) (omega arith) (omega arith))
 
-pub depth_is_enough : DepthIsEnough
-depth_is_enough program input files t depth le = unmoved t t _ (execution program input files t depth) _ (λ w. omega (arith, w)) (alike program input files t t t depth (omega arith) le (omega arith))
+  pub keeps_turns : (program : Program) → KeepsTurns S p store program
+  keeps_turns program = record {
+    final = λ input files t u le. over t u _ (run_of program input files u u) _ (alike program input files t u t u le le (omega arith));
+    trace = λ input files t. (one_more program input files t).trace;
+    log = λ input files t. (one_more program input files t).log;
+    units = λ input files t. (one_more program input files t).units;
+    exact = λ input files t. turns t t _ (run_of program input files t t) _ (alike program input files t t t t (omega arith) (omega arith) (omega arith));
+    deep = λ input files t depth le. unmoved t t _ (run_of program input files t depth) _ (λ w. omega (arith, w)) (alike program input files t t t depth (omega arith) le (omega arith));
+  }

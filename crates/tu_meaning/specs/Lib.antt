@@ -1,11 +1,9 @@
 pub mod Steps
-pub mod Prefix
-pub mod Meaning
-pub mod Laws
-pub mod Values
-pub mod Operators
 pub mod Store
-pub mod Rooms
-pub mod Interpreter
+pub mod Words
+pub mod Expressions
+pub mod Statements
+pub mod Subprograms
+pub mod Meaning
 pub mod Programs
-pub mod ProgramLaws
+pub mod Laws

@@ -1,44 +1,53 @@
--- What a step of a program does. From a state it leads to another and gives a value, or raises an exception, or runs out of
--- turns. What it adds to the trace and to the units stands beside that, so a program can only add to both.
-use Rattle.std.specs.Prelude.{ℕ, ◌+◌, List, [], ◌++◌, Option, nat_lt, nat_le, if◌then◌else◌}
-use Rattle.tu_base.specs.Files.{Files}
+-- What a step of a program does. From a state it leads to another and gives a value, or raises an exception, or runs out of turns. What it
+-- adds to the trace, to the units and to the log stands beside that, so a program can only add to them.
+use Rattle.std.specs.Prelude.{ℕ, ◌+◌, List, [], ◌∷◌, ◌++◌, nat_lt, nat_le, if◌then◌else◌}
 use Rattle.tu_base.specs.Trace.{Trace}
 use Rattle.tu_base.specs.declared.kind.Kind.{Kind}
 use Rattle.tu_base.specs.declared.kind.Kind.TheVariants.{Storage}
+use Rattle.tu_base.specs.Streams.{Outside}
+use Rattle.tu_base.specs.Heap.{Heap}
 
--- what is added to the trace and to the units
+-- What a log tells: that a statement began, by its first byte, and that Storage was raised by a limit, not by a `quit`.
+pub data Note : Type 0 where
+  Began : (start : ℕ) → Note
+  LimitPassed : Note
+
+-- what is added to the trace, to the units and to the log
 pub record Added : Type 0 where
   pub trace : Trace
   pub units : ℕ
+  pub log : List Note
 
 abbrev pub nothing : Added
-nothing = record { trace = []; units = 0 }
+nothing = record { trace = []; units = 0; log = [] }
 
 -- the one, and then the other
 abbrev pub joined : Added → Added → Added
-joined x y = record { trace = x.trace ++ y.trace; units = x.units + y.units }
+joined x y = record { trace = x.trace ++ y.trace; units = x.units + y.units; log = x.log ++ y.log }
 
 -- how many turns have begun, and how many words of rooms are in use
 pub record Counts : Type 0 where
   pub turns : ℕ
   pub rooms : ℕ
 
--- what can still come from outside: the input that was not read, and the files that can be opened, unless all are closed
-pub record Outside : Type 0 where
-  pub input : List ℕ
-  pub files : Option Files
+-- what all activations share beside their variables
+pub record World : Type 0 where
+  pub heap : Heap
+  pub outside : Outside
 
 -- where a program stands; S is the type of what it stores
 pub record State (S : Type 0) : Type 0 where
   pub store : S
   pub counts : Counts
-  pub outside : Outside
+  pub world : World
 
--- a value, an exception with the line that raised it, or no turn is left; each with the state that it leaves
+-- A value, an exception with the line that raised it, or no turn is left; each with the state that it leaves. No rule says what comes where
+-- a core is not well formed.
 pub data Outcome (S A : Type 0) : Type 0 where
   Done : A → State S → Outcome S A
   Raised : Kind → (line : ℕ) → State S → Outcome S A
   Going : State S → Outcome S A
+  NoRule : State S → Outcome S A
 
 -- a step of a program that stores an S, and that gives an A where it is done
 abbrev pub Step : Type 0 → Type 0 → Type 0
@@ -52,6 +61,7 @@ abbrev pub after : {S A B : Type 0} → Added → Outcome S A → (A → Step S 
 after x (Done a s) f = adding x (f a s)
 after x (Raised kind line s) f = (x, Raised kind line s)
 after x (Going s) f = (x, Going s)
+after x (NoRule s) f = (x, NoRule s)
 
 infixl 10 ◌>>=◌
 -- the one step, and then the one that its value chooses
@@ -75,6 +85,10 @@ raise kind line = λ s. (nothing, Raised kind line s)
 unfoldable pub stop : {S A : Type 0} → Step S A
 stop = λ s. (nothing, Going s)
 
+-- no rule says what comes
+unfoldable pub lost : {S A : Type 0} → Step S A
+lost = λ s. (nothing, NoRule s)
+
 -- looks at the store
 unfoldable pub look : {S A : Type 0} → (S → A) → Step S A
 look f = λ s. (nothing, Done (f s.store) s)
@@ -83,30 +97,44 @@ look f = λ s. (nothing, Done (f s.store) s)
 unfoldable pub change : {S : Type 0} → (S → S) → Step S (Unit {0})
 change f = λ s. (nothing, Done tt (record s { store = f s.store }))
 
+-- looks at what all activations share, and changes it
+unfoldable pub consult : {S A : Type 0} → (World → A × World) → Step S A
+consult f = λ s. (nothing, Done (f s.world).0 (record s { world = (f s.world).1 }))
+
 -- counts this many units
 unfoldable pub pay : {S : Type 0} → ℕ → Step S (Unit {0})
-pay units = λ s. (record { trace = []; units = units }, Done tt s)
+pay units = λ s. (record { trace = []; units = units; log = [] }, Done tt s)
 
 -- these actions happen
 unfoldable pub happen : {S : Type 0} → Trace → Step S (Unit {0})
-happen actions = λ s. (record { trace = actions; units = 0 }, Done tt s)
+happen actions = λ s. (record { trace = actions; units = 0; log = [] }, Done tt s)
+
+-- the log tells this
+unfoldable pub note : {S : Type 0} → Note → Step S (Unit {0})
+note n = λ s. (record { trace = []; units = 0; log = n ∷ [] }, Done tt s)
 
 abbrev pub turned : Counts → Counts
 turned counts = record counts { turns = counts.turns + 1 }
 
+abbrev pub one_unit : Added
+one_unit = record { trace = []; units = 1; log = [] }
+
 -- begins a turn, which costs a unit, where fewer than t have begun
 unfoldable pub turn : {S : Type 0} → (t : ℕ) → Step S (Unit {0})
-turn t = λ s. if nat_lt s.counts.turns t then (record { trace = []; units = 1 }, Done tt (record s { counts = turned s.counts })) else (nothing, Going s)
+turn t = λ s. if nat_lt s.counts.turns t then (one_unit, Done tt (record s { counts = turned s.counts })) else (nothing, Going s)
 
 -- the most words that rooms can take
 abbrev pub most_rooms : ℕ
 most_rooms = 8388608
 
+abbrev pub limit_passed : Added
+limit_passed = record { trace = []; units = 0; log = LimitPassed ∷ [] }
+
 -- takes a room, or raises Storage at a line
 unfoldable pub take_room : {S : Type 0} → (room line : ℕ) → Step S (Unit {0})
 take_room room line = λ s.
     let rooms = s.counts.rooms + room in
-    if nat_le rooms most_rooms then (nothing, Done tt (record s { counts = record s.counts { rooms = rooms } })) else (nothing, Raised Storage line s)
+    if nat_le rooms most_rooms then (nothing, Done tt (record s { counts = record s.counts { rooms = rooms } })) else (limit_passed, Raised Storage line s)
 
 abbrev pub closed : {S : Type 0} → (S → S → S) → State S → State S → State S
 closed close opened s = record s { store = close opened.store s.store; counts = record s.counts { rooms = opened.counts.rooms } }
@@ -115,9 +143,10 @@ abbrev pub closing : {S A : Type 0} → (S → S → S) → State S → Outcome 
 closing close opened (Done a s) = Done a (closed close opened s)
 closing close opened (Raised kind line s) = Raised kind line (closed close opened s)
 closing close opened (Going s) = Going s
+closing close opened (NoRule s) = NoRule s
 
--- A scope: the store is opened as it begins. As it is left by a value or an exception, the store is closed, which sees the store from
--- before the scope too, and the rooms are given back.
+-- A scope: the store is opened as it begins. As it is left by a value or an exception, the store is closed, which sees the store from before
+-- the scope too, and the rooms are given back.
 unfoldable pub scope : {S A : Type 0} → (S → S) → (S → S → S) → Step S A → Step S A
 scope enter leave m = λ s. let r = m (record s { store = enter s.store }) in (r.0, closing leave s r.1)
 
@@ -125,6 +154,7 @@ abbrev pub taken : {S A : Type 0} → Added → Outcome S A → (Kind → ℕ �
 taken x (Done a s) handler = (x, Done a s)
 taken x (Raised kind line s) handler = adding x (handler kind line s)
 taken x (Going s) handler = (x, Going s)
+taken x (NoRule s) handler = (x, NoRule s)
 
 -- a step whose exceptions go to a handler
 unfoldable pub handled : {S A : Type 0} → Step S A → (Kind → ℕ → Step S A) → Step S A

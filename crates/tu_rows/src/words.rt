@@ -60,10 +60,18 @@ const WORDS: &[Row] = &[
     (0x0420_81b3, None, [0xb3, 0x81, 0x20, 4]),
 ];
 
+// Two instructions that fit have one word only where they are the same.
+fn is_decoded(word: u32) -> bool {
+    match decode(word) {
+        Some(found) => encode(found) == word,
+        None => false,
+    }
+}
+
 fn is_word(alloc: Global, row: &Row) -> Result<bool, Memory> {
     let (word, op, bytes) = *row;
     let same = match op {
-        Some(op) => op.fits() && encode(op) == word && decode(word) == Some(op),
+        Some(op) => op.fits() && encode(op) == word && is_decoded(word),
         None => decode(word).is_none(),
     };
     let image = Image::make(Text::from_slice(alloc, &[word])?, 0, 0).bytes(alloc)?;

@@ -10,8 +10,8 @@ use Rattle.rv_image.specs.Streams.{Holding}
 use Rattle.rv_image.specs.Run.{machine_run}
 use Rattle.tu_token.specs.Rules.{r-program}
 use Rattle.tu_token.specs.Syntax.{Of}
-use Rattle.tu_meaning.specs.Programs.{meaning}
-use Rattle.tu_meaning.specs.Laws.{IsFinal}
+use Rattle.tu_tree_meaning.specs.Programs.{meaning}
+use Rattle.tu_tree_meaning.specs.Laws.{IsFinal}
 use Rattle.tu_agree.specs.Laws.{MeaningIsRun}
 use Rattle.tu_run.specs.declared.report.Report.{Report}
 use Rattle.tu_run.specs.declared.report.Status.{Status}
@@ -118,7 +118,7 @@ shown_verdict : (image other : Picture) (budget : ℕ) (before after : Outside) 
     Tells before input events files → RunsImage image budget before after status count → verdict_shown status ≡ Some (machine_run other input (Holding files) budget).verdict
 shown_verdict image other budget before after status count input events files same on y t r =
     let s = shown_by status on y in
-    let whole = (r.told input events files t).run_of_image s.verdict s.is in
+    let whole = (r.told input events files t).verdict_leaves_all s.verdict s.is in
     s.is ∙ ap Some (sym whole.ends ∙ ap (λ p. (machine_run p input (Holding files) budget).verdict) same)
 
 -- a report with an image that was made
@@ -126,6 +126,7 @@ pub made_source : (file : List ℕ) (before : Outside) (report : Report) (image 
 made_source file before report image m on = record {
   no_file = λ files known. apart NoFile report.status _ refl on (m.read.no_file files known);
   refused = λ source refusal h. apart (Refused refusal) report.status _ refl on (m.read.refused source refusal h);
+  no_memory = λ refusal e. absurd (let f : is_of_run report.status ≡ false = ap is_of_run e in cc (on, f));
 }
 
 compiled_as : (file : List ℕ) (told : Option Files) (image : Picture) → MakesImage told file (Ok image) → (source : List ℕ) → HoldsFile told file source → IsCompiled source image
@@ -133,13 +134,16 @@ compiled_as file told image m source h = let a = (m.read.ended source h).only re
 
 pub made_image : (file : List ℕ) (before : Outside) (report : Report) (image : Picture) → MakesImage before.files file (Ok image) → report.image ≡ Some image → AnswersImage file before report
 made_image file before report image m is = record {
-  image_agrees = λ source other h e. let same : image ≡ other = cc (is, e) in subst (λ p. IsCompiled source p) same (compiled_as file before.files image m source h);
+  image_agrees = λ files other known e.
+      let same : image ≡ other = cc (is, e) in
+      let found = m.there files image known refl in
+      (found.0, found.1, subst (λ p. IsCompiled found.0 p) same (compiled_as file before.files image m found.0 (record { files = files; known = known; found = found.1 })));
   has_image = λ source h a y none. cc (is, none);
 }
 
 -- a report of a source of which no image was made
 pub none_source : {A : Type 0} (file : List ℕ) (before : Outside) (status : Status) → ReadsSource {A = A} before.files file (Err status) → AnswersSource file before (record { status = status; image = None; instructions = 0 })
-none_source file before status r = record { no_file = r.no_file; refused = r.refused }
+none_source file before status r = record { no_file = r.no_file; refused = r.refused; no_memory = λ refusal e. r.no_memory refusal (ap Err e) }
 
 fails_not_ended : (status : Status) → (is_of_source status || is_of_files status) ≡ true → status ≡ Ended → ⊥
 fails_not_ended status k e = let f : (is_of_source status || is_of_files status) ≡ false = ap (λ s. is_of_source s || is_of_files s) e in cc (k, f)
@@ -150,7 +154,7 @@ accepted_yields told file source status r h a y = fails_not_ended status (r.kind
 
 pub none_image : (file : List ℕ) (before : Outside) (status : Status) → MakesImage before.files file (Err status) → AnswersImage file before (record { status = status; image = None; instructions = 0 })
 none_image file before status m = record {
-  image_agrees = λ source other h e. absurd (cc e);
+  image_agrees = λ files other known e. absurd (cc e);
   has_image = λ source h a y none. accepted_yields before.files file source status m.read h a y;
 }
 
@@ -162,12 +166,14 @@ run_answers law final file budget before after report image files faults m same 
   source = made_source file before report image m on;
   made = made_image file before report image m is;
   image_shows = λ none. absurd (cc (is, none));
+  console_of_image = λ _ none. cc (is, none);
+  untouched = λ none. absurd (cc (is, none));
   run_of_image = λ other e.
       let eq : image ≡ other = cc (is, e) in
       subst (λ i. RunsImage i budget before after report.status report.instructions) eq (runs_before image budget before after report.status report.instructions files faults same r);
   leaves = λ source tree h a input events known t y.
       let s = shown_by report.status on y in
-      let whole = ((runs_before image budget before after report.status report.instructions files faults same r).told input events known t).run_of_image s.verdict s.is in
+      let whole = ((runs_before image budget before after report.status report.instructions files faults same r).told input events known t).verdict_leaves_all s.verdict s.is in
       leaves_meant law (meaning tree) (final tree) image (m.all source image tree h refl a) input known budget report.instructions report.status events after s.verdict s.is whole;
 }
 
@@ -199,24 +205,26 @@ read_shows NoteFault e = absurd (cc e)
 read_shows OutOfMemory e = (refl, λ q. cc q)
 read_shows (MachineFault kind pc) e = absurd (cc e)
 
-pub run_failed : (file : List ℕ) (budget : ℕ) (before after : Outside) (status : Status) → MakesImage before.files file (Err status) → AnswersRun file budget before after (record { status = status; image = None; instructions = 0 })
-run_failed file budget before after status m =
+pub run_failed : (file : List ℕ) (budget : ℕ) (before : Outside) (status : Status) (files : Option Files) (faults : ℕ) → files ≡ before.files → MakesImage before.files file (Err status) →
+    AnswersRun file budget before (behind_fetch before files faults) (record { status = status; image = None; instructions = 0 })
+run_failed file budget before status files faults same m =
     let k = m.read.kind status refl in
     record {
       kind = run_or_source status k;
       source = none_source file before status m.read;
       made = none_image file before status m;
       image_shows = λ _. (fails_shows status k).0;
+      console_of_image = λ e _. (fails_shows status k).1 e;
+      untouched = λ _. record { left = refl; events = refl; files = same; none = refl };
       run_of_image = λ other e. absurd (cc e);
-      leaves = λ source tree h a input events known t y. absurd (accepted_yields before.files file source status m.read h (tree, a) y);
+      leaves = λ source tree h a input events told t y. absurd (accepted_yields before.files file source status m.read h (tree, a) y);
     }
 
--- nothing was done, and a fetch may have failed
-pub nothing_done : (before : Outside) (status : Status) (files : Option Files) (faults : ℕ) → files ≡ before.files → before.cabinet_faults ≤ faults → status ≢ ConsoleFault →
+-- nothing was made, and a fetch may have failed
+pub nothing_done : (before : Outside) (status : Status) (files : Option Files) (faults : ℕ) → before.cabinet_faults ≤ faults → status ≢ ConsoleFault →
     (status ≡ CabinetFault → Rose before.cabinet_faults faults) → AnswersAny before (behind_fetch before files faults) (record { status = status; image = None; instructions = 0 })
-nothing_done before status files faults same later console fault = record {
+nothing_done before status files faults later console fault = record {
   none_made = λ _. refl;
-  untouched = λ _. record { left = refl; events = refl; files = same; none = refl };
   console_fault = λ e. absurd (console e);
   cabinet_fault = fault;
   later = (omega arith, later);
@@ -230,9 +238,14 @@ exec_answers file budget before after report image files faults m same is on r =
   no_file = λ known e. apart NoFile report.status _ refl on (m.no_file known e);
   bad_image = λ bytes error h e. apart (BadImage error) report.status _ refl on (m.bad_image bytes error h e);
   no_memory = λ e. let f : is_of_run report.status ≡ false = ap is_of_run e in cc (on, f);
-  image_is_read = λ bytes other h e. let eq : image ≡ other = cc (is, e) in m.is_read bytes other h (ap Ok eq);
+  image_is_read = λ told other known e.
+      let eq : image ≡ other = cc (is, e) in
+      let found = m.there told other known (ap Ok eq) in
+      (found.0, found.1, m.is_read found.0 other (record { files = told; known = known; found = found.1 }) (ap Ok eq));
   has_image = λ bytes other h i y. let eq : Ok image ≡ Ok other = m.has_image bytes other h i refl in let s : image ≡ other = cc eq in is ∙ ap Some s;
   image_shows = λ none. absurd (cc (is, none));
+  console_of_image = λ _ none. cc (is, none);
+  untouched = λ none. absurd (cc (is, none));
   exec_runs_image = λ other e.
       let eq : image ≡ other = cc (is, e) in
       subst (λ i. RunsImage i budget before after report.status report.instructions) eq (runs_before image budget before after report.status report.instructions files faults same r);
@@ -243,19 +256,22 @@ exec_answers file budget before after report image files faults m same is on r =
       (runs_before image budget before after report.status report.instructions files faults same r);
 }
 
-pub exec_failed : (file : List ℕ) (budget : ℕ) (before after : Outside) (status : Status) → ReadsImage before.files file (Err status) → AnswersExec file budget before after (record { status = status; image = None; instructions = 0 })
-exec_failed file budget before after status m =
+pub exec_failed : (file : List ℕ) (budget : ℕ) (before : Outside) (status : Status) (files : Option Files) (faults : ℕ) → files ≡ before.files → ReadsImage before.files file (Err status) →
+    AnswersExec file budget before (behind_fetch before files faults) (record { status = status; image = None; instructions = 0 })
+exec_failed file budget before status files faults same m =
     let k = m.kind status refl in
     record {
       kind = run_or_image status k;
       no_file = m.no_file;
       bad_image = m.bad_image;
       no_memory = λ e. m.no_memory (ap Err e);
-      image_is_read = λ bytes other h e. absurd (cc e);
+      image_is_read = λ told other known e. absurd (cc e);
       has_image = λ bytes other h i y. absurd (let e : Err status ≡ Ok other = m.has_image bytes other h i y in cc e);
       image_shows = λ _. (read_shows status k).0;
+      console_of_image = λ e _. (read_shows status k).1 e;
+      untouched = λ _. record { left = refl; events = refl; files = same; none = refl };
       exec_runs_image = λ other e. absurd (cc e);
-      completes = λ bytes other h i input events known t y. absurd (let e : Err status ≡ Ok other = m.has_image bytes other h i y in cc e);
+      completes = λ bytes other h i input events told t y. absurd (let e : Err status ≡ Ok other = m.has_image bytes other h i y in cc e);
     }
 
 pub build_answers : (file name : List ℕ) (before after : Outside) (report : Report) (image : Picture) → MakesImage before.files file (Ok image) → report.image ≡ Some image → report.instructions ≡ 0 →
@@ -297,7 +313,7 @@ pub check_answers : {A : Type 0} (file : List ℕ) (before : Outside) (files : O
     → AnswersCheck file before (behind_fetch before files faults) (record { status = Ended; image = None; instructions = 0 })
 check_answers file before files faults made r same = record {
   kind = λ off. absurd (off refl);
-  source = record { no_file = r.no_file; refused = r.refused };
+  source = record { no_file = r.no_file; refused = r.refused; no_memory = λ refusal e. absurd (cc e) };
   check_accepts = r.ended;
   none_made = refl;
   untouched = record { left = refl; events = refl; files = same; none = refl };

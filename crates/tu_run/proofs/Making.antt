@@ -13,7 +13,10 @@ use Rattle.rv_image.specs.Reading.{reading, Gives}
 use Rattle.rv_image.specs.declared.image.ImageError.{ImageError}
 use Rattle.rv_image.specs.declared.image.ImageError.TheVariants.{Size, Short, Magic, Version, Length, Entry, Globals, Memory}
 use Rattle.tu_check.specs.declared.refusal.Refusal.{Refusal}
-use Rattle.tu_check.specs.declared.refusal.Refusal.TheVariants.{Size as refused_size}
+use Rattle.tu_check.specs.declared.refusal.Refusal.TheVariants.{Size as refused_size, Lexical, Syntax, Scope, Types, Effects, Overlap}
+use Rattle.tu_check.specs.declared.refusal.TypeError.TheVariants.{NotBuilt}
+use Rattle.tu_token.specs.LexFaults.{FaultKind, BadByte, BadNumber, OpenText, LongText, OpenComment, LongName, TooMany, TooDeep, error_of}
+use Rattle.tu_token.specs.declared.fault.LexError.TheVariants.{Memory as lexical_memory}
 use Rattle.tu_token.specs.Rules.{r-program}
 use Rattle.tu_token.specs.Syntax.{Of}
 use Rattle.tu_check.specs.declared.error.CheckError.{CheckError}
@@ -21,11 +24,12 @@ use Rattle.tu_check.specs.declared.error.CheckError.TheVariants.{Refused as chec
 use Rattle.tu_check.specs.Errors.{IsCause}
 use Rattle.tu_check.specs.Laws.{IsAcceptedOnce, IsRefusedOnce, IsNeverBoth}
 use Rattle.tu_check.specs.Refusals.{IsAccepted, IsRefused}
-use Rattle.tu_meaning.specs.Programs.{meaning}
+use Rattle.tu_tree_meaning.specs.Programs.{meaning}
 use Rattle.tu_agree.specs.Agrees.{Agrees, over_folder}
 use Rattle.tu_run.specs.declared.report.Status.{Status}
 use Rattle.tu_run.specs.declared.report.Status.TheVariants.{Ended, Refused, NoFile, BadImage, CabinetFault, OutOfMemory}
 use Rattle.tu_run.specs.Outside.{HoldsFile}
+use Rattle.tu_run.specs.Reason.{HasReason}
 use Rattle.tu_run.specs.Answer.{Exactly, IsAcceptedSource, is_of_files, is_of_source, yields_to}
 use Rattle.tu_run.specs.Made.{Fetches, Judges, Compiles, ReadsSource, MakesImage, ReadsImage, status_after, status_of_check}
 
@@ -125,6 +129,27 @@ judged_ended one source (Err status) j = record { only = λ e. absurd (by (j.kin
   none (inl m) h y = let f : yields_to status ≡ true = ap yields_to m in absurd (cc)
   none (inr r) h y = one.apart source h.0 r.0 h.1 (j.refused r.0 (ap (λ s. Err s) r.1))
 
+lexical_reason : (kind : FaultKind) (line : ℕ) → error_of kind line ≢ lexical_memory
+lexical_reason BadByte line e = cc e
+lexical_reason BadNumber line e = cc e
+lexical_reason OpenText line e = cc e
+lexical_reason LongText line e = cc e
+lexical_reason OpenComment line e = cc e
+lexical_reason LongName line e = cc e
+lexical_reason TooMany line e = cc e
+lexical_reason TooDeep line e = cc e
+
+-- a source is refused for what it is
+refused_reason : (source : List ℕ) (refusal : Refusal) → IsRefused source refusal → HasReason refusal
+refused_reason source refused_size r = tt
+refused_reason source (Lexical error) r = λ e. lexical_reason r.1.kind _ (sym r.1.error_is ∙ e)
+refused_reason source (Syntax line) r = tt
+refused_reason source (Scope error) r = absurd r
+refused_reason source (Types (NotBuilt line)) r = λ e. cc e
+refused_reason source (Types other) r = absurd r
+refused_reason source (Effects error) r = absurd r
+refused_reason source (Overlap error) r = absurd r
+
 -- what a fetched source comes to is what its file comes to
 pub fetched_judged : {A : Type 0} → OneAnswer → (told : Option Files) (file source : List ℕ) (result : Result A Status) → IsFetched told file 1048576 (Whole source) → Judges source result → ReadsSource told file result
 fetched_judged one told file source result f j = record {
@@ -132,11 +157,13 @@ fetched_judged one told file source result f j = record {
   no_file = λ files known. record { only = λ e. absurd (not_missing source result j e); always = λ none y. absurd (there told file source files 1048576 f known none) };
   refused = λ other refusal h. subst (λ x. Exactly (Refused refusal) (status_after result) (IsRefused x refusal)) (sym (held told file source other 1048576 f h)) (judged_refused one source result refusal j);
   ended = λ other h. subst (λ x. Exactly Ended (status_after result) (IsAcceptedSource x)) (sym (held told file source other 1048576 f h)) (judged_ended one source result j);
+  no_memory = λ refusal e. refused_reason source refusal (j.refused refusal e);
 }
 
 pub fetched_made : OneAnswer → (told : Option Files) (file source : List ℕ) (result : Result Picture Status) → IsFetched told file 1048576 (Whole source) → Compiles source result → MakesImage told file result
 fetched_made one told file source result f c = record {
   read = fetched_judged one told file source result f c.judged;
+  there = λ files image known e. (source, whole_is (map.get files file) 1048576 source (f.told files known));
   all = λ other image tree h e a. c.all image tree e (subst (λ x. IsAccepted x tree) (held told file source other 1048576 f h) a);
 }
 
@@ -164,6 +191,7 @@ absent_read {A} told file f =
       no_file = λ files known. record { only = λ e. absent_is (map.get files file) 1048576 (f.told files known); always = λ e y. refl };
       refused = λ source refusal h. absurd (none source h);
       ended = λ source h. absurd (none source h);
+      no_memory = λ refusal e. absurd (let s = err_is {A = A} NoFile (Refused refusal) e in cc s);
     }
 
 -- a source that is too large
@@ -178,6 +206,7 @@ large_read {A} one told file f =
         always = λ r y. ap (λ q. Refused q) (one.refused source refused_size refusal (size source h) r);
       };
       ended = λ source h. record { only = λ e. absurd (cc); always = λ a y. absurd (one.apart source a.0 refused_size a.1 (size source h)) };
+      no_memory = λ refusal e. subst (λ r. HasReason r) (refusal_is refused_size refusal (err_is {A = A} (Refused refused_size) (Refused refusal) e)) tt;
     }
 
 -- the cabinet failed, or memory ran out
@@ -188,6 +217,7 @@ failed_read {A} told file status k missing refused ended y = record {
   no_file = λ files known. record { only = λ e. absurd (missing e); always = λ e z. absurd (cc (y, z)) };
   refused = λ source refusal h. record { only = λ e. absurd (refused refusal e); always = λ r z. absurd (cc (y, z)) };
   ended = λ source h. record { only = λ e. absurd (ended e); always = λ a z. absurd (cc (y, z)) };
+  no_memory = λ refusal e. absurd (refused refusal (err_is {A = A} status (Refused refusal) e));
 } where
   or_files : (status : Status) → is_of_files status ≡ true → (is_of_source status || is_of_files status) ≡ true
   or_files CabinetFault e = refl
@@ -215,7 +245,7 @@ not_fetched one told file OutOfMemory f = failed_read told file OutOfMemory refl
 not_fetched one told file other f = absurd (cc f)
 
 pub not_made : OneAnswer → (told : Option Files) (file : List ℕ) (status : Status) → Fetches told file (Err status) → MakesImage told file (Err status)
-not_made one told file status f = record { read = not_fetched one told file status f; all = λ source image tree h e. absurd (cc e) }
+not_made one told file status f = record { read = not_fetched one told file status f; there = λ files image known e. absurd (cc e); all = λ source image tree h e. absurd (cc e) }
 
 given_error : (error : ImageError) (read : Result Picture ImageError) → error ≢ Memory → Gives (Err error) read → read ≡ Err error
 given_error Size read h g = g
@@ -238,6 +268,7 @@ bad_read told file error h some is none = record {
     always = λ bad y. let same : Err error ≡ Err other = sym r ∙ bad in let eq : error ≡ other = cc same in ap BadImage eq;
   };
   no_memory = λ e. h (cc e);
+  there = λ known p e i. absurd (cc i);
   is_read = λ bytes p holds e. absurd (cc e);
   has_image = λ bytes p holds i y. absurd (none bytes p holds i);
 }
@@ -248,6 +279,22 @@ fetched_bad told file bytes error h f is only =
     bad_read told file error h (λ files known none. there told file bytes files 67108884 f known none)
     (λ other holds. subst (λ x. reading x ≡ Err error) (sym (held told file bytes other 67108884 f holds)) (given_error error (reading bytes) h is))
     (λ other p holds i. let e : Ok p ≡ Err error = given_error error (Ok p) h (only p (subst (λ x. IsImage x p) (held told file bytes other 67108884 f holds) i)) in cc e)
+
+-- fetched bytes that are an image
+pub fetched_image : (told : Option Files) (file bytes : List ℕ) (image : Picture) → IsFetched told file 67108884 (Whole bytes) → Gives (Ok image) (reading bytes) → IsImage bytes image →
+    ((p : Picture) → IsImage bytes p → Gives (Ok image) (Ok p)) → ReadsImage told file (Ok image)
+fetched_image told file bytes image f is found only = record {
+  kind = λ status e. absurd (cc e);
+  no_file = λ files known. record { only = λ e. absurd (cc e); always = λ none y. absurd (there told file bytes files 67108884 f known none) };
+  bad_image = λ other error h _. record {
+    only = λ e. absurd (cc e);
+    always = λ bad y. absurd (let r : reading bytes ≡ Err error = subst (λ x. reading x ≡ Err error) (held told file bytes other 67108884 f h) bad in cc (is, r));
+  };
+  no_memory = λ e. cc e;
+  there = λ files other known e. (bytes, whole_is (map.get files file) 67108884 bytes (f.told files known));
+  is_read = λ other p h e. let same : image ≡ p = cc e in subst (λ x. IsImage x p) (sym (held told file bytes other 67108884 f h)) (subst (λ i. IsImage bytes i) same found);
+  has_image = λ other p h i y. let e : Ok p ≡ Ok image = only p (subst (λ x. IsImage x p) (held told file bytes other 67108884 f h) i) in let same : image ≡ p = cc e in ap Ok same;
+}
 
 too_large : (bytes : List ℕ) → 67108884 < length bytes → reading bytes ≡ Err Size
 too_large bytes h = grind arith
@@ -268,6 +315,7 @@ memory_read told file = record {
   no_file = λ files known. record { only = λ e. absurd (cc e); always = λ none y. absurd (cc y) };
   bad_image = λ bytes error h _. record { only = λ e. absurd (cc e); always = λ bad y. absurd (cc y) };
   no_memory = λ e. cc e;
+  there = λ files image known e. absurd (cc e);
   is_read = λ bytes image h e. absurd (cc e);
   has_image = λ bytes image h i y. absurd (cc y);
 }

@@ -5,11 +5,11 @@ use Rattle.tu_base.specs.declared.event.Event.{Event}
 use Rattle.tu_base.specs.Files.{Files}
 use Rattle.rv_image.specs.Picture.{Picture}
 use Rattle.rv_image.specs.Streams.{Holding}
-use Rattle.rv_image.specs.Run.{MachineVerdict, Ended, Stopped, Fault, Going, Ran, machine_run}
+use Rattle.rv_image.specs.Run.{MachineVerdict, Ended, Stopped, Fault, Going, Ran, machine_run, IsOver}
 use Rattle.rv_host.specs.Host.{IsWhole}
-use Rattle.tu_meaning.specs.Meaning.{Meant}
-use Rattle.tu_meaning.specs.Laws.{Meaning, IsFinal}
-use Rattle.tu_agree.specs.Agrees.{Agrees, AgreesWithin, IsOver, SameEnd, over_folder, files_in}
+use Rattle.tu_tree_meaning.specs.Meaning.{Meant}
+use Rattle.tu_tree_meaning.specs.Laws.{Meaning, IsFinal}
+use Rattle.tu_agree.specs.Agrees.{Agrees, AgreesWithin, SameEnd, over_folder, files_in}
 use Rattle.tu_agree.specs.Laws.{MeaningIsRun}
 use Rattle.tu_run.specs.declared.report.Status.{Status}
 use Rattle.tu_run.specs.declared.report.Status.TheVariants.{Spent}

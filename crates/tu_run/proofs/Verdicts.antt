@@ -6,8 +6,7 @@ use Rattle.tu_base.specs.declared.kind.Kind.{Kind}
 use Rattle.tu_base.specs.declared.kind.Kind.TheVariants.{Overflow, Divide, Subscript, Range, Unset, Tag, Pointer, Overlap, StringSize, StringPlace, Case, Assert, Pre, Post, Invariant, Result as kind_result, Input, EndOfInput, Stream, Bounds, Storage}
 use Rattle.tu_base.specs.declared.event.Verdict.{Verdict}
 use Rattle.tu_base.specs.declared.event.Verdict.TheVariants.{Ended as verdict_ended, Stopped as verdict_stopped, Going as verdict_going}
-use Rattle.rv_image.specs.Run.{MachineVerdict, Ended as machine_ended, Stopped as machine_stopped, Going as machine_going}
-use Rattle.tu_agree.specs.Agrees.{machine_verdict}
+use Rattle.rv_image.specs.Run.{MachineVerdict, Ended as machine_ended, Stopped as machine_stopped, Going as machine_going, machine_verdict}
 use Rattle.tu_run.specs.declared.report.Status.{Status}
 use Rattle.tu_run.specs.declared.report.Status.TheVariants.{Ended, Stopped, Refused, Usage, NoFile, BadImage, Spent, ConsoleFault, CabinetFault, NoteFault, OutOfMemory, MachineFault}
 use Rattle.tu_run.specs.Ran.{verdict_shown}

@@ -130,14 +130,13 @@ exec_is_answered words image budget before after report is a any = record {
 pub usage_is_answered : (words : List (List ℕ)) (before : Outside) → IsUsage words → Answers words before before (record { status = Usage; image = None; instructions = 0 })
 usage_is_answered words before u = record {
   usage = λ _. u;
-  is_usage = λ _. refl;
+  is_usage = λ _. record { is = refl; untouched = record { left = refl; events = refl; files = refl; none = refl } };
   run = λ other n r. absurd (u.no_run other n r);
   check = λ other k. absurd (u.no_check other k);
   build = λ other name b. absurd (u.no_build other name b);
   exec = λ other n x. absurd (u.no_exec other n x);
   any = record {
     none_made = λ _. refl;
-    untouched = λ _. record { left = refl; events = refl; files = refl; none = refl };
     console_fault = λ e. absurd (cc e);
     cabinet_fault = λ e. absurd (cc e);
     later = (omega arith, omega arith);

@@ -1,4 +1,8 @@
 -- What a command answers, apart from its note.
+--
+-- `AnswersRun.leaves` is the headline: what a program means is what its run leaves. The other fields are its parts, and the cause of each status:
+-- the image is that of the source in FILE (`made`), what is left is what that image does (`run_of_image`), and without an image nothing is done
+-- (`untouched`).
 use Rattle.std.specs.Prelude.{◌≡◌, ◌≢◌, ℕ, ◌≤◌, Bool, true, false, ◌||◌, List, Option, Some, None, Err}
 use Rattle.std.specs.FinMap as map
 use Rattle.tu_base.specs.declared.event.Event.{Event}
@@ -8,8 +12,7 @@ use Rattle.tu_base.specs.Files.{Files}
 use Rattle.tu_base.specs.Trace.{Trace}
 use Rattle.tu_outside.specs.Causes.{Rose}
 use Rattle.tu_outside.specs.Files.{with_file}
-use Rattle.rv_image.specs.Picture.{Picture, IsImage, spelling}
-use Rattle.rv_image.specs.Reading.{reading}
+use Rattle.rv_image.specs.Picture.{Picture, spelling}
 use Rattle.rv_image.specs.Streams.{Holding}
 use Rattle.rv_image.specs.Run.{machine_run}
 use Rattle.rv_image.specs.declared.image.ImageError.{ImageError}
@@ -19,11 +22,13 @@ use Rattle.tu_check.specs.declared.refusal.Refusal.{Refusal}
 use Rattle.tu_token.specs.Rules.{r-program}
 use Rattle.tu_token.specs.Syntax.{Of}
 use Rattle.tu_check.specs.Refusals.{IsAccepted, IsRefused}
-use Rattle.tu_meaning.specs.Meaning.{Meant}
-use Rattle.tu_meaning.specs.Programs.{meaning}
-use Rattle.tu_meaning.specs.Prefix.{IsPrefix}
+use Rattle.tu_tree_meaning.specs.Meaning.{Meant}
+use Rattle.tu_tree_meaning.specs.Programs.{meaning}
+use Rattle.tu_base.specs.Prefix.{IsPrefix}
 use Rattle.tu_agree.specs.Agrees.{Agrees, IsEnough, over_folder}
+use Rattle.tu_run.specs.Reason.{HasReason}
 use Rattle.tu_run.specs.Command.{IsRun, IsCheck, IsBuild, IsExec, IsUsage}
+use Rattle.tu_run.specs.ImageFile.{IsImageFile, image_file_reading}
 use Rattle.tu_run.specs.Outside.{Outside, Tells, HoldsFile, told_of}
 use Rattle.tu_run.specs.Ran.{RunsImage, verdict_shown}
 use Rattle.tu_run.specs.declared.report.Report.{Report}
@@ -91,7 +96,8 @@ pub record LeavesMeant (meant : ℕ → Meant) (budget : ℕ) (status : Status) 
   pub first_part : IsPrefix done (meant budget).trace
   pub spent : status ≡ Spent → (t : ℕ) → IsEnough budget (meant t).units → (meant t).verdict ≡ verdict_going
   pub nothing_held_back : (t : ℕ) → IsEnough budget (meant t).units → IsPrefix (meant t).trace done
-  -- no giving up: where it is over within units that the budget is enough for, the run is over with the same trace and verdict
+  -- No giving up: where it is over within units that the budget is enough for, the run is over with the same trace and verdict. This follows
+  -- from `spent` and `whole`, as what a meaning that is over has done is the same at every larger number of turns.
   pub completes : (t : ℕ) → IsEnough budget (meant t).units → (meant t).verdict ≢ verdict_going → (done ≡ (meant t).trace) × (status ≡ status_of_verdict (meant t).verdict)
 
 -- the source is accepted as some tree
@@ -115,11 +121,14 @@ pub record IsUntouched (before after : Outside) (count : ℕ) : Type 0 where
 pub record AnswersSource (file : List ℕ) (before : Outside) (report : Report) : Type 0 where
   pub no_file : (files : Files) → before.files ≡ Some files → Exactly NoFile report.status (map.get files file ≡ None)
   pub refused : (source : List ℕ) (refusal : Refusal) → HoldsFile before.files file source → Exactly (Refused refusal) report.status (IsRefused source refusal)
+  -- want of memory is no refusal, whatever the cabinet tells
+  pub no_memory : (refusal : Refusal) → report.status ≡ Refused refusal → HasReason refusal
 
--- The image of the source in FILE, for `run` and `build`. It agrees with the source, which is then accepted. There is one for each accepted
--- source, unless the answer is one to which all yield.
+-- The image of the source in FILE, for `run` and `build`. Where the cabinet tells its files, there is an image only of a FILE that is one of
+-- them, and it agrees with the source in it, which is then accepted. There is one for each accepted source, unless the answer is one to which
+-- all yield.
 pub record AnswersImage (file : List ℕ) (before : Outside) (report : Report) : Type 0 where
-  pub image_agrees : (source : List ℕ) (image : Picture) → HoldsFile before.files file source → report.image ≡ Some image → IsCompiled source image
+  pub image_agrees : (files : Files) (image : Picture) → before.files ≡ Some files → report.image ≡ Some image → (source : List ℕ) × (map.get files file ≡ Some source) × IsCompiled source image
   pub has_image : (source : List ℕ) → HoldsFile before.files file source → IsAcceptedSource source → yields_to report.status ≡ false → report.image ≢ None
 
 -- `run FILE [budget=N]`
@@ -127,8 +136,10 @@ pub record AnswersRun (file : List ℕ) (budget : ℕ) (before after : Outside) 
   pub kind : (is_of_run report.status || is_of_source report.status) ≡ true
   pub source : AnswersSource file before report
   pub made : AnswersImage file before report
-  -- without an image no verdict is shown
+  -- without an image no verdict is shown, the console is not asked, and nothing was done
   pub image_shows : report.image ≡ None → verdict_shown report.status ≡ None
+  pub console_of_image : report.status ≡ ConsoleFault → report.image ≢ None
+  pub untouched : report.image ≡ None → IsUntouched before after report.instructions
   pub run_of_image : (image : Picture) → report.image ≡ Some image → RunsImage image budget before after report.status report.instructions
   -- what the program means is left
   pub leaves : (source : List ℕ) (tree : Of r-program) → HoldsFile before.files file source → IsAccepted source tree →
@@ -168,33 +179,40 @@ pub record AnswersExec (image : List ℕ) (budget : ℕ) (before after : Outside
   pub kind : (is_of_run report.status || is_of_image report.status) ≡ true
   pub no_file : (files : Files) → before.files ≡ Some files → Exactly NoFile report.status (map.get files image ≡ None)
   -- the first condition that fails, and never want of memory
-  pub bad_image : (bytes : List ℕ) (error : ImageError) → HoldsFile before.files image bytes → error ≢ Memory → Exactly (BadImage error) report.status (reading bytes ≡ Err error)
+  pub bad_image : (bytes : List ℕ) (error : ImageError) → HoldsFile before.files image bytes → error ≢ Memory → Exactly (BadImage error) report.status (image_file_reading bytes ≡ Err error)
   pub no_memory : report.status ≢ BadImage Memory
-  -- The image is the one that the bytes are. There is one where they are one, unless the answer is one to which all yield.
-  pub image_is_read : (bytes : List ℕ) (picture : Picture) → HoldsFile before.files image bytes → report.image ≡ Some picture → IsImage bytes picture
-  pub has_image : (bytes : List ℕ) (picture : Picture) → HoldsFile before.files image bytes → IsImage bytes picture → yields_to report.status ≡ false → report.image ≡ Some picture
-  -- without an image no verdict is shown
+  -- Where the cabinet tells its files, there is an image only of an IMAGE that is one of them, and it is the one that its bytes are. There is
+  -- one where they are one, unless the answer is one to which all yield.
+  pub image_is_read : (files : Files) (picture : Picture) → before.files ≡ Some files → report.image ≡ Some picture → (bytes : List ℕ) × (map.get files image ≡ Some bytes) × IsImageFile bytes picture
+  pub has_image : (bytes : List ℕ) (picture : Picture) → HoldsFile before.files image bytes → IsImageFile bytes picture → yields_to report.status ≡ false → report.image ≡ Some picture
+  -- without an image no verdict is shown, the console is not asked, and nothing was done
   pub image_shows : report.image ≡ None → verdict_shown report.status ≡ None
+  pub console_of_image : report.status ≡ ConsoleFault → report.image ≢ None
+  pub untouched : report.image ≡ None → IsUntouched before after report.instructions
   pub exec_runs_image : (picture : Picture) → report.image ≡ Some picture → RunsImage picture budget before after report.status report.instructions
   -- no giving up: the status shows the run's verdict
-  pub completes : (bytes : List ℕ) (picture : Picture) → HoldsFile before.files image bytes → IsImage bytes picture →
+  pub completes : (bytes : List ℕ) (picture : Picture) → HoldsFile before.files image bytes → IsImageFile bytes picture →
       (input : List ℕ) (events : List Event) (files : Files) → Tells before input events files → yields_to report.status ≡ false →
       verdict_shown report.status ≡ Some (machine_run picture input (Holding files) budget).verdict
 
 -- What holds of each command.
 pub record AnswersAny (before after : Outside) (report : Report) : Type 0 where
-  -- With a status to which no run comes, as after a refusal, no image was made. Without an image nothing was done.
+  -- with a status to which no run comes, as after a refusal, no image was made
   pub none_made : is_of_run report.status ≡ false → report.image ≡ None
-  pub untouched : report.image ≡ None → IsUntouched before after report.instructions
   -- faults come only where a count rose
   pub console_fault : report.status ≡ ConsoleFault → Rose before.console_faults after.console_faults
   pub cabinet_fault : report.status ≡ CabinetFault → Rose before.cabinet_faults after.cabinet_faults
   pub later : (before.console_faults ≤ after.console_faults) × (before.cabinet_faults ≤ after.cabinet_faults)
 
+-- Words that are no command: nothing is done.
+pub record AnswersUsage (before after : Outside) (report : Report) : Type 0 where
+  pub is : report.status ≡ Usage
+  pub untouched : IsUntouched before after report.instructions
+
 pub record Answers (words : List (List ℕ)) (before after : Outside) (report : Report) : Type 0 where
   -- Usage comes exactly for words that are no command, and yields to nothing
   pub usage : report.status ≡ Usage → IsUsage words
-  pub is_usage : IsUsage words → report.status ≡ Usage
+  pub is_usage : IsUsage words → AnswersUsage before after report
   pub run : (file : List ℕ) (budget : ℕ) → IsRun words file budget → AnswersRun file budget before after report
   pub check : (file : List ℕ) → IsCheck words file → AnswersCheck file before after report
   pub build : (file image : List ℕ) → IsBuild words file image → AnswersBuild file image before after report

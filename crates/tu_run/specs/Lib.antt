@@ -2,6 +2,7 @@ pub mod Outside
 pub mod Command
 pub mod Commands
 pub mod Ran
+pub mod ImageFile
 pub mod Answer
 pub mod Made
 pub mod Reason

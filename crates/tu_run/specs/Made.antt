@@ -3,8 +3,7 @@ use Rattle.std.specs.Prelude.{◌≡◌, ◌≢◌, ◌⊎◌, ℕ, true, false,
 use Rattle.std.specs.FinMap as map
 use Rattle.tu_base.specs.declared.limits.TheConstants.{MOST_SOURCE_BYTES}
 use Rattle.tu_base.specs.Files.{Files}
-use Rattle.rv_image.specs.Picture.{Picture, IsImage}
-use Rattle.rv_image.specs.Reading.{reading}
+use Rattle.rv_image.specs.Picture.{Picture}
 use Rattle.rv_image.specs.declared.image.ImageError.{ImageError}
 use Rattle.rv_image.specs.declared.image.ImageError.TheVariants.{Memory}
 use Rattle.rv_host.specs.declared.host.HostEnd.{HostEnd}
@@ -18,8 +17,10 @@ use Rattle.tu_token.specs.Syntax.{Of}
 use Rattle.tu_check.specs.declared.error.CheckError.{CheckError}
 use Rattle.tu_check.specs.declared.error.CheckError.TheVariants.{Refused as check_refused, Memory as check_memory}
 use Rattle.tu_check.specs.Refusals.{IsAccepted, IsRefused}
-use Rattle.tu_meaning.specs.Programs.{meaning}
+use Rattle.tu_tree_meaning.specs.Programs.{meaning}
 use Rattle.tu_agree.specs.Agrees.{Agrees, over_folder}
+use Rattle.tu_run.specs.Reason.{HasReason}
+use Rattle.tu_run.specs.ImageFile.{IsImageFile, image_file_reading}
 use Rattle.tu_run.specs.Outside.{HoldsFile}
 use Rattle.tu_run.specs.Answer.{Exactly, IsAcceptedSource, is_of_source, is_of_image, is_of_files, yields_to}
 use Rattle.tu_run.specs.declared.report.Status.{Status}
@@ -69,17 +70,24 @@ pub record ReadsSource {A : Type 0} (told : Option Files) (file : List ℕ) (res
   pub no_file : (files : Files) → told ≡ Some files → Exactly NoFile (status_after result) (map.get files file ≡ None)
   pub refused : (source : List ℕ) (refusal : Refusal) → HoldsFile told file source → Exactly (Refused refusal) (status_after result) (IsRefused source refusal)
   pub ended : (source : List ℕ) → HoldsFile told file source → Exactly Ended (status_after result) (IsAcceptedSource source)
+  pub no_memory : (refusal : Refusal) → result ≡ Err (Refused refusal) → HasReason refusal
+
+-- there is a file of this name
+abbrev pub IsThere : Files → (file : List ℕ) → Type 0
+IsThere files file = (contents : List ℕ) × (map.get files file ≡ Some contents)
 
 -- what the source in a file is compiled to
 pub record MakesImage (told : Option Files) (file : List ℕ) (result : Result Picture Status) : Type 0 where
   pub read : ReadsSource told file result
+  pub there : (files : Files) (image : Picture) → told ≡ Some files → result ≡ Ok image → IsThere files file
   pub all : (source : List ℕ) (image : Picture) (tree : Of r-program) → HoldsFile told file source → result ≡ Ok image → IsAccepted source tree → Agrees (over_folder (meaning tree)) image
 
 -- what the bytes in a file are read as
 pub record ReadsImage (told : Option Files) (file : List ℕ) (result : Result Picture Status) : Type 0 where
   pub kind : (status : Status) → result ≡ Err status → (is_of_image status || is_of_files status) ≡ true
   pub no_file : (files : Files) → told ≡ Some files → Exactly NoFile (status_after result) (map.get files file ≡ None)
-  pub bad_image : (bytes : List ℕ) (error : ImageError) → HoldsFile told file bytes → error ≢ Memory → Exactly (BadImage error) (status_after result) (reading bytes ≡ Err error)
+  pub bad_image : (bytes : List ℕ) (error : ImageError) → HoldsFile told file bytes → error ≢ Memory → Exactly (BadImage error) (status_after result) (image_file_reading bytes ≡ Err error)
   pub no_memory : result ≢ Err (BadImage Memory)
-  pub is_read : (bytes : List ℕ) (image : Picture) → HoldsFile told file bytes → result ≡ Ok image → IsImage bytes image
-  pub has_image : (bytes : List ℕ) (image : Picture) → HoldsFile told file bytes → IsImage bytes image → yields_to (status_after result) ≡ false → result ≡ Ok image
+  pub there : (files : Files) (image : Picture) → told ≡ Some files → result ≡ Ok image → IsThere files file
+  pub is_read : (bytes : List ℕ) (image : Picture) → HoldsFile told file bytes → result ≡ Ok image → IsImageFile bytes image
+  pub has_image : (bytes : List ℕ) (image : Picture) → HoldsFile told file bytes → IsImageFile bytes image → yields_to (status_after result) ≡ false → result ≡ Ok image

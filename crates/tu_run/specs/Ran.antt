@@ -1,5 +1,5 @@
 -- What the run of an image leaves.
-use Rattle.std.specs.Prelude.{◌≡◌, ℕ, ◌≤◌, false, List, Option, Some, None}
+use Rattle.std.specs.Prelude.{◌≡◌, ℕ, ◌-◌, ◌≤◌, true, false, List, Option, Some, None}
 use Rattle.tu_base.specs.declared.event.Event.{Event}
 use Rattle.tu_base.specs.Kind.{kind_number}
 use Rattle.tu_base.specs.Files.{Files}
@@ -28,12 +28,13 @@ verdict_shown OutOfMemory = None
 verdict_shown (MachineFault kind pc) = Some (machine_fault kind pc)
 
 -- The events added, the input left, the files, the count and the status are those of the run at the budget. Where it was broken off, a first part
--- of the trace of the run at the instructions counted stands. Memory runs out before the first instruction, or where the program has asked to
--- open a file.
+-- of the trace of the run at the instructions counted stands, with all of the run of one less: nothing that was due before the last instruction is
+-- held back. Memory runs out before the first instruction, or where the program has asked to open a file; only there does the cabinet fail.
 pub record Runs (ran : ℕ → Ran) (budget : ℕ) (status : Status) (count : ℕ) (events : List Event) (files : Files) (after : Outside) : Type 0 where
-  pub run_of_image : (verdict : MachineVerdict) → verdict_shown status ≡ Some verdict → IsWhole (ran budget) verdict count events files (told_of after)
-  pub fault_leaves_prefix : verdict_shown status ≡ None → ShowsPart events files (ran count).world.trace (told_of after)
+  pub verdict_leaves_all : (verdict : MachineVerdict) → verdict_shown status ≡ Some verdict → IsWhole (ran budget) verdict count events files (told_of after)
+  pub fault_leaves_prefix : verdict_shown status ≡ None → ShowsPart events files (ran (count - 1)).world.trace (ran count).world.trace (told_of after)
   pub out_of_memory : status ≡ OutOfMemory → (ran count).world.opened ≡ false → count ≡ 0
+  pub cabinet_fault : status ≡ CabinetFault → (ran count).world.opened ≡ true
 
 -- What an image does that is run with a budget, where console and cabinet tell what they hold.
 pub record RunsImage (image : Picture) (budget : ℕ) (before after : Outside) (status : Status) (count : ℕ) : Type 0 where

@@ -1,5 +1,5 @@
--- The notes of refusals: the line, the group and the kind.
-use Rattle.std.specs.Prelude.{ℕ, List, ◌++◌, codes, decimal}
+-- Refusals, and their notes: the line, the group and the kind.
+use Rattle.std.specs.Prelude.{◌≢◌, ℕ, List, ◌++◌, codes, decimal}
 use Rattle.tu_token.specs.declared.fault.LexError.{LexError}
 use Rattle.tu_token.specs.declared.fault.LexError.TheVariants.{BadByte, BadNumber, OpenText, LongText, OpenComment, LongName, TooMany, TooDeep, Memory as lexical_memory}
 use Rattle.tu_check.specs.declared.refusal.ScopeError.{ScopeError}
@@ -12,6 +12,16 @@ use Rattle.tu_check.specs.declared.refusal.AliasError.{AliasError}
 use Rattle.tu_check.specs.declared.refusal.AliasError.TheVariants.{SharedActual, ImportedActual, HiddenRoot, ChangedBound, Memory as overlap_memory}
 use Rattle.tu_check.specs.declared.refusal.Refusal.{Refusal}
 use Rattle.tu_check.specs.declared.refusal.Refusal.TheVariants.{Size, Lexical, Syntax, Scope, Types, Effects, Overlap}
+
+-- the refusal tells of a source, and not of want of memory
+abbrev pub HasReason : Refusal → Type 0
+HasReason Size = Unit {0}
+HasReason (Lexical error) = error ≢ lexical_memory
+HasReason (Syntax line) = Unit {0}
+HasReason (Scope error) = error ≢ scope_memory
+HasReason (Types error) = error ≢ types_memory
+HasReason (Effects error) = error ≢ effects_memory
+HasReason (Overlap error) = error ≢ overlap_memory
 
 abbrev pub at_line : ℕ → List ℕ → List ℕ
 at_line line text = codes "line " ++ (decimal line ++ (codes ": " ++ text))

@@ -18,8 +18,8 @@ use tu_agree::meaning_is_run;
 use tu_base::{Bytes, MOST_SOURCE_BYTES, Words};
 use tu_check::{CheckError, Refusal, check, one_answer};
 use tu_compile::compile;
-use tu_meaning::program_is_final;
 use tu_outside::{Cabinet, CabinetError, Console, Fetched};
+use tu_tree_meaning::program_is_final;
 
 // In bytes.
 const LARGEST_SOURCE: u64 = MOST_SOURCE_BYTES as u64;

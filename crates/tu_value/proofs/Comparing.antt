@@ -3,7 +3,7 @@ use Rattle.std.proofs.Common.{◌≡◌, ℕ, suc, ◌+◌, ◌-◌, ◌≤◌, 
 use Rattle.std.specs.Prelude.{◌==◌, not, nat_lt, nat_le, ℤ, pos, negsuc, int_lt, int_le}
 use Rattle.std.proofs.lemmas.Bool.Decides.{nat_tests}
 use Rattle.tu_expr.specs.Forms.{Equal, NotEqual, Less, Greater, LessOrEqual, GreaterOrEqual, In, NotIn}
-use Rattle.tu_meaning.specs.Operators.{is_int, are_equal, truth}
+use Rattle.tu_tree_meaning.specs.Operators.{is_int, are_equal, truth}
 use Rattle.tu_value.specs.Words.{word_of_int}
 use Rattle.tu_value.specs.Laws.{RelationsHold}
 use Rattle.tu_value.proofs.Numbers.{small_of}

@@ -12,29 +12,29 @@ use Rattle.ir_form.specs.Plain.{Calls}
 use Rattle.ir_form.specs.State.{State, next}
 use Rattle.ir_form.specs.declared.plain.Width.TheVariants.{Word}
 use Rattle.ir_code.proofs.Steps.{set, set_same, set_below, AllGo, none, stops, ◌▸◌, ◌▹◌, constant_goes, compute_goes, load_goes, store_goes, check_goes, check_stops}
-use Rattle.tu_meaning.specs.Values.{Value, Unset, Int, Truth}
-use Rattle.tu_meaning.specs.Operators.{is_int}
+use Rattle.tu_tree_meaning.specs.Values.{Value, Unset, Int, Truth}
+use Rattle.tu_tree_meaning.specs.Operators.{is_int}
 use Rattle.tu_value.specs.Words.{word_of, word_of_int, IsSmall}
 use Rattle.tu_value.specs.Pieces.{fetch_code, fixed_code, literal_code, store_code}
 use Rattle.tu_value.specs.Meets.{GivesValue, RaisesAt, Meets, HasFixed, StoresWord, fetched}
-use Rattle.tu_value.specs.Laws.{FetchMeets, FixedAreGiven, GivesFixed, LiteralMeets, NumberIsGiven, StoreRuns, UnsetRuns, WordsFit}
+use Rattle.tu_value.specs.Laws.{FetchMeets, FixedAreGiven, GivesFixed, LiteralMeets, NumberIsGiven, StoreRuns, UnsetRuns, WordsFit, fetch_most}
 use Rattle.tu_value.specs.declared.pieces.Fixed.{Fixed}
 use Rattle.tu_value.proofs.Numbers.{small_of, small_word}
 use Rattle.tu_value.proofs.Outcomes.{unchanged, also, past, gives_value, raises_at}
 use Rattle.tu_value.proofs.Tests.{at_most_test, is_set}
 
 module _ (g : Setting) (calls : Calls) (k : Fixed) where
-  fetch_unset : (line at n a : ℕ) (st : State) (c : ℕ) → HasFixed k n st → st.env at ≡ Some a → loaded Word st.cells a ≡ Some 0 → RaisesAt line n 26 kind.Unset st c (run_list g calls (fetch_code k line at n) st c)
+  fetch_unset : (line at n a : ℕ) (st : State) (c : ℕ) → HasFixed k n st → st.env at ≡ Some a → loaded Word st.cells a ≡ Some 0 → RaisesAt line n fetch_most kind.Unset st c (run_list g calls (fetch_code k line at n) st c)
   fetch_unset line at n a st c h e m = raises_at kind.Unset
       (load_goes n Word at e m ▹ stops [] (check_stops NotEqual n k.zero kind.Unset line (set_same st.env n 0) (set_below st.env n 0 k.zero h.zero_below ∙ h.zero_is) refl))
       (also n n 0 (omega arith) (unchanged n st)) (omega arith) (omega arith)
 
-  fetch_set : (v : Value) (line at n a : ℕ) (st : State) (c : ℕ) → HasFixed k n st → st.env at ≡ Some a → loaded Word st.cells a ≡ Some (word_of v) → IsSmall v → 1 ≤ word_of v → GivesValue n n 26 v st c (run_list g calls (fetch_code k line at n) st c)
+  fetch_set : (v : Value) (line at n a : ℕ) (st : State) (c : ℕ) → HasFixed k n st → st.env at ≡ Some a → loaded Word st.cells a ≡ Some (word_of v) → IsSmall v → 1 ≤ word_of v → GivesValue n n fetch_most v st c (run_list g calls (fetch_code k line at n) st c)
   fetch_set v line at n a st c h e m small le = gives_value v
       (load_goes n Word at e m ▸ check_goes NotEqual n k.zero kind.Unset line (set_same st.env n (word_of v)) (set_below st.env n (word_of v) k.zero h.zero_below ∙ h.zero_is) (is_set (word_of v) le) ▸ none)
       (also n n (word_of v) (omega arith) (unchanged n st)) (set_same st.env n (word_of v)) small (omega arith) (omega arith)
 
-  fetches : (v : Value) (line at n a : ℕ) (st : State) (c : ℕ) → HasFixed k n st → st.env at ≡ Some a → loaded Word st.cells a ≡ Some (word_of v) → IsSmall v → Meets line n n 26 (fetched v) st c (run_list g calls (fetch_code k line at n) st c)
+  fetches : (v : Value) (line at n a : ℕ) (st : State) (c : ℕ) → HasFixed k n st → st.env at ≡ Some a → loaded Word st.cells a ≡ Some (word_of v) → IsSmall v → Meets line n n fetch_most (fetched v) st c (run_list g calls (fetch_code k line at n) st c)
   fetches Unset line at n a st c h e m small = fetch_unset line at n a st c h e m
   fetches (Int z) line at n a st c h e m small = fetch_set (Int z) line at n a st c h e m small (small_word z small).0
   fetches (Truth true) line at n a st c h e m small = fetch_set (Truth true) line at n a st c h e m small (omega arith)

@@ -10,8 +10,8 @@ use Rattle.ir_form.specs.Plain.{Calls}
 use Rattle.ir_form.specs.State.{State, Run}
 use Rattle.ir_form.specs.declared.op.Op.{Op}
 use Rattle.ir_code.proofs.Steps.{set, set_below, AllGo, AllStop}
-use Rattle.tu_meaning.specs.Values.{Value, Int}
-use Rattle.tu_meaning.specs.Operators.{Gives, Raises, is_int, exact}
+use Rattle.tu_tree_meaning.specs.Values.{Value, Int}
+use Rattle.tu_tree_meaning.specs.Operators.{Gives, Raises, is_int, exact}
 use Rattle.tu_value.specs.Words.{word_of, IsSmall}
 use Rattle.tu_value.specs.Meets.{OnlyFrom, GivesValue, RaisesAt, Meets}
 

@@ -6,7 +6,7 @@ use Rattle.rv_isa.specs.declared.instr.Relation.TheVariants as machine
 use Rattle.tu_token.specs.Rules.{r-relation}
 use Rattle.tu_token.specs.Syntax.{Of}
 use Rattle.tu_expr.specs.Forms.{Equal, NotEqual, Less, Greater, LessOrEqual, GreaterOrEqual}
-use Rattle.tu_meaning.specs.Operators.{Answer, NoRule, truth}
+use Rattle.tu_tree_meaning.specs.Operators.{Answer, NoRule, truth}
 
 -- a relation of the machine, and whether the right side comes first
 pub record Comparison : Type 0 where

@@ -10,13 +10,27 @@ use Rattle.ir_form.specs.State.{State, Next, Run, next, with_value}
 use Rattle.ir_form.specs.declared.plain.Width.TheVariants.{Word}
 use Rattle.tu_token.specs.Rules.{r-relation}
 use Rattle.tu_token.specs.Syntax.{Of}
-use Rattle.tu_meaning.specs.Values.{Value, Unset, Int}
-use Rattle.tu_meaning.specs.Operators.{Gives, exact, is_int, relate}
+use Rattle.tu_tree_meaning.specs.Values.{Value, Unset, Int}
+use Rattle.tu_tree_meaning.specs.Operators.{Gives, exact, is_int, relate}
 use Rattle.tu_value.specs.declared.pieces.Fixed.{Fixed}
 use Rattle.tu_value.specs.Words.{word_of, word_of_int, IsSmall}
 use Rattle.tu_value.specs.Pieces.{difference_code, fetch_code, fixed_code, fixed_from, less_code, literal_code, more_code, number_code, product_code, store_code, sum_code, unset_code}
 use Rattle.tu_value.specs.Meets.{OnlyFrom, Costs, Meets, HasFixed, HasInt, StoresWord, HoldsWord, fetched}
 use Rattle.tu_value.specs.Comparisons.{comparison_of, compared}
+
+-- what reading a variable costs at most, a sum or a difference, a product, and a sum or a difference with a number: an exception that they raise
+-- is the dearest
+abbrev pub fetch_most : ℕ
+fetch_most = 40
+
+abbrev pub sum_most : ℕ
+sum_most = 86
+
+abbrev pub product_most : ℕ
+product_most = 111
+
+abbrev pub more_most : ℕ
+more_most = 48
 
 -- a run that defines the two values from n on
 pub record GivesFixed (n : ℕ) (st : State) (c : ℕ) (r : Run) : Type 0 where
@@ -36,7 +50,7 @@ abbrev pub WordsFit : Type 0
 WordsFit = (v : Value) → IsSmall v → word_of v < 4294967296
 
 abbrev pub FetchMeets : Type 0
-FetchMeets = (g : Setting) (calls : Calls) (k : Fixed) (v : Value) (line at n a : ℕ) (st : State) (c : ℕ) → HasFixed k n st → st.env at ≡ Some a → loaded Word st.cells a ≡ Some (word_of v) → IsSmall v → Meets line n n 26 (fetched v) st c (run_list g calls (fetch_code k line at n) st c)
+FetchMeets = (g : Setting) (calls : Calls) (k : Fixed) (v : Value) (line at n a : ℕ) (st : State) (c : ℕ) → HasFixed k n st → st.env at ≡ Some a → loaded Word st.cells a ≡ Some (word_of v) → IsSmall v → Meets line n n fetch_most (fetched v) st c (run_list g calls (fetch_code k line at n) st c)
 
 abbrev pub StoreRuns : Type 0
 StoreRuns = (g : Setting) (calls : Calls) (at from a w : ℕ) (st : State) (c : ℕ) → st.env at ≡ Some a → st.env from ≡ Some w → is_open_word st.cells a ≡ true → StoresWord a w st c (run_list g calls (store_code at from) st c)
@@ -53,19 +67,19 @@ abbrev pub NumberIsGiven : Type 0
 NumberIsGiven = (g : Setting) (calls : Calls) (k : Fixed) (z : ℤ) (value n : ℕ) (st : State) (c : ℕ) → HasFixed k n st → HasInt z value n st → run_list g calls (number_code k value n) st c ≡ next (record st { env = with_value st.env n (cast_unsigned w32 z) }) (c + 10)
 
 abbrev pub SumMeets : Type 0
-SumMeets = (g : Setting) (calls : Calls) (k : Fixed) (x y : ℤ) (line left right n : ℕ) (st : State) (c : ℕ) → HasFixed k n st → HasInt x left n st → HasInt y right n st → Meets line n (n + 1) 72 (exact (x +ℤ y)) st c (run_list g calls (sum_code k line left right n) st c)
+SumMeets = (g : Setting) (calls : Calls) (k : Fixed) (x y : ℤ) (line left right n : ℕ) (st : State) (c : ℕ) → HasFixed k n st → HasInt x left n st → HasInt y right n st → Meets line n (n + 1) sum_most (exact (x +ℤ y)) st c (run_list g calls (sum_code k line left right n) st c)
 
 abbrev pub DifferenceMeets : Type 0
-DifferenceMeets = (g : Setting) (calls : Calls) (k : Fixed) (x y : ℤ) (line left right n : ℕ) (st : State) (c : ℕ) → HasFixed k n st → HasInt x left n st → HasInt y right n st → Meets line n (n + 1) 72 (exact (x -ℤ y)) st c (run_list g calls (difference_code k line left right n) st c)
+DifferenceMeets = (g : Setting) (calls : Calls) (k : Fixed) (x y : ℤ) (line left right n : ℕ) (st : State) (c : ℕ) → HasFixed k n st → HasInt x left n st → HasInt y right n st → Meets line n (n + 1) sum_most (exact (x -ℤ y)) st c (run_list g calls (difference_code k line left right n) st c)
 
 abbrev pub ProductMeets : Type 0
-ProductMeets = (g : Setting) (calls : Calls) (k : Fixed) (x y : ℤ) (line left right n : ℕ) (st : State) (c : ℕ) → HasFixed k n st → HasInt x left n st → HasInt y right n st → Meets line n (n + 6) 97 (exact (x *ℤ y)) st c (run_list g calls (product_code k line left right n) st c)
+ProductMeets = (g : Setting) (calls : Calls) (k : Fixed) (x y : ℤ) (line left right n : ℕ) (st : State) (c : ℕ) → HasFixed k n st → HasInt x left n st → HasInt y right n st → Meets line n (n + 6) product_most (exact (x *ℤ y)) st c (run_list g calls (product_code k line left right n) st c)
 
 abbrev pub MoreMeets : Type 0
-MoreMeets = (g : Setting) (calls : Calls) (x : ℤ) (line left number n : ℕ) (st : State) (c : ℕ) → HasInt x left n st → number ≤ MOST_INT → Meets line n (n + 1) 34 (exact (x +ℤ pos number)) st c (run_list g calls (more_code line left number n) st c)
+MoreMeets = (g : Setting) (calls : Calls) (x : ℤ) (line left number n : ℕ) (st : State) (c : ℕ) → HasInt x left n st → number ≤ MOST_INT → Meets line n (n + 1) more_most (exact (x +ℤ pos number)) st c (run_list g calls (more_code line left number n) st c)
 
 abbrev pub LessMeets : Type 0
-LessMeets = (g : Setting) (calls : Calls) (x : ℤ) (line left number n : ℕ) (st : State) (c : ℕ) → HasInt x left n st → number ≤ MOST_INT → Meets line n (n + 1) 34 (exact (x -ℤ pos number)) st c (run_list g calls (less_code line left number n) st c)
+LessMeets = (g : Setting) (calls : Calls) (x : ℤ) (line left number n : ℕ) (st : State) (c : ℕ) → HasInt x left n st → number ≤ MOST_INT → Meets line n (n + 1) more_most (exact (x -ℤ pos number)) st c (run_list g calls (less_code line left number n) st c)
 
 -- what a relation says of two ints is what its comparison says of their words
 abbrev pub RelationsHold : Type 0

@@ -6,8 +6,8 @@ use Rattle.tu_base.specs.Kind.{kind_number}
 use Rattle.ir_form.specs.Cells.{Cells, is_open_word, loaded, with_word}
 use Rattle.ir_form.specs.State.{State, Next, Throws, Run}
 use Rattle.ir_form.specs.declared.plain.Width.TheVariants.{Word}
-use Rattle.tu_meaning.specs.Values.{Value, Unset}
-use Rattle.tu_meaning.specs.Operators.{Answer, Gives, Raises, NoRule, is_int}
+use Rattle.tu_tree_meaning.specs.Values.{Value, Unset}
+use Rattle.tu_tree_meaning.specs.Operators.{Answer, Gives, Raises, NoRule, is_int}
 use Rattle.tu_value.specs.Words.{word_of, word_of_int, IsSmall}
 use Rattle.tu_value.specs.declared.pieces.Fixed.{Fixed}
 

@@ -1,8 +1,8 @@
 -- Which word stands for a value, in memory and in region code.
 use Rattle.std.specs.Prelude.{ℕ, ◌+◌, ◌-◌, IsTrue, if◌then◌else◌, ℤ, pos, negsuc}
 use Rattle.tu_base.specs.declared.limits.TheConstants.{MOST_INT}
-use Rattle.tu_meaning.specs.Values.{Value, Unset, Int, Truth}
-use Rattle.tu_meaning.specs.Operators.{is_int}
+use Rattle.tu_tree_meaning.specs.Values.{Value, Unset, Int, Truth}
+use Rattle.tu_tree_meaning.specs.Operators.{is_int}
 
 -- The number and 2^31. So the order of ints is that of their words, and no int has the word 0.
 abbrev pub word_of_int : ℤ → ℕ

@@ -1,7 +1,7 @@
 use Rattle.std.proofs.Common.{arith}
 use Rattle.ir_form.specs.Values.{values_of}
 use Rattle.ir_form.specs.Tests.{is_once}
-use Rattle.ir_form.proofs.Onces.{all-If, all-Case, all-Loop}
+use Rattle.ir_form.proofs.Onces.{all-If, all-Case, all-Loop, all-Guard}
 use Rattle.ir_form.proofs.tally.+once.Goals as goal
 
 pub once_op-returns-then-once_region-2 : goal.once_op-returns-then-once_region-2
@@ -32,4 +32,14 @@ once_op-returns-then-once_region-4 t c =
 pub once_op-returns-else-once_region-4 : goal.once_op-returns-else-once_region-4
 once_op-returns-else-once_region-4 t c =
     let e = all-Loop (is_once (values_of c.args.routine.now)) c.args.op.now c.in-Loop.marked c.in-Loop.start c.in-Loop.body c.in-Loop.to c.in-Loop.is in
+    grind (arith, e)
+
+pub once_op-returns-then-once_region-6 : goal.once_op-returns-then-once_region-6
+once_op-returns-then-once_region-6 t c =
+    let e = all-Guard (is_once (values_of c.args.routine.now)) c.args.op.now c.in-Guard.mark c.in-Guard.body c.in-Guard.handler c.in-Guard.to c.in-Guard.is in
+    grind (arith, e)
+
+pub once_op-returns-else-once_region-6 : goal.once_op-returns-else-once_region-6
+once_op-returns-else-once_region-6 t c =
+    let e = all-Guard (is_once (values_of c.args.routine.now)) c.args.op.now c.in-Guard.mark c.in-Guard.body c.in-Guard.handler c.in-Guard.to c.in-Guard.is in
     grind (arith, e)

@@ -1,7 +1,7 @@
 use Rattle.std.proofs.Common.{ap, ◌∙◌, ◌++◌}
 use Rattle.ir_form.specs.Values.{defined, defined_list, defined_region, defined_each}
 use Rattle.ir_form.specs.Tests.{tally_of}
-use Rattle.ir_form.proofs.Lists.{defined-If, defined-Case, defined-Loop}
+use Rattle.ir_form.proofs.Lists.{defined-If, defined-Case, defined-Loop, defined-Guard}
 use Rattle.ir_form.proofs.Tallies.{tally-append, ops_more, arms_more}
 use Rattle.ir_form.proofs.tally.+tally.Goals as goal
 
@@ -26,6 +26,13 @@ pub tally_op-returns-in-Loop : goal.tally_op-returns-in-Loop
 tally_op-returns-in-Loop t c =
     let a = ap defined c.in-Loop.is ∙ defined-Loop c.in-Loop.marked c.in-Loop.start c.in-Loop.body c.in-Loop.to in
     let x = tally-append c.args.before (defined_region c.in-Loop.body) c.in-Loop.to in
+    cc
+
+pub tally_op-returns-in-Guard : goal.tally_op-returns-in-Guard
+tally_op-returns-in-Guard t c =
+    let a = ap defined c.in-Guard.is ∙ defined-Guard c.in-Guard.mark c.in-Guard.body c.in-Guard.handler c.in-Guard.to in
+    let x = tally-append c.args.before (defined_region c.in-Guard.body) (defined_region c.in-Guard.handler ++ c.in-Guard.to) in
+    let y = tally-append (tally_of c.args.before (defined_region c.in-Guard.body)) (defined_region c.in-Guard.handler) c.in-Guard.to in
     cc
 
 pub tally_region-loop-op-init : goal.tally_region-loop-op-init

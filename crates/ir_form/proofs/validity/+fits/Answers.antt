@@ -3,7 +3,7 @@ use Rattle.ir_form.specs.Valid.{with}
 use Rattle.ir_form.specs.Tests.{scope_of, fits}
 use Rattle.std.proofs.lemmas.Bool.Decides.{nat_tests}
 use Rattle.ir_form.specs.declared.op.Op.{Op}
-use Rattle.ir_form.proofs.Lists.{fits-If, fits-Case, fits-Loop}
+use Rattle.ir_form.proofs.Lists.{fits-If, fits-Case, fits-Loop, fits-Guard}
 use Rattle.ir_form.proofs.Fitting.{fits_more, given_same}
 use Rattle.ir_form.proofs.validity.+fits.Goals as goal
 
@@ -37,4 +37,14 @@ region_fits-loop-i-preserved t c =
 pub op_fits-returns-in-Loop : goal.op_fits-returns-in-Loop
 op_fits-returns-in-Loop t c =
     let e = ap (fits c.args.unit.now c.args.routine.now (scope_of c.args.around.now)) c.in-Loop.is ∙ fits-Loop c.args.unit.now c.args.routine.now (scope_of c.args.around.now) c.in-Loop.marked c.in-Loop.start c.in-Loop.body c.in-Loop.to in
+    grind (arith, e)
+
+pub op_fits-returns-then-guarded_fits : goal.op_fits-returns-then-guarded_fits
+op_fits-returns-then-guarded_fits t c =
+    let e = ap (fits c.args.unit.now c.args.routine.now (scope_of c.args.around.now)) c.in-Guard.is ∙ fits-Guard c.args.unit.now c.args.routine.now (scope_of c.args.around.now) c.in-Guard.mark c.in-Guard.body c.in-Guard.handler c.in-Guard.to in
+    grind (arith, e)
+
+pub op_fits-returns-else-guarded_fits : goal.op_fits-returns-else-guarded_fits
+op_fits-returns-else-guarded_fits t c =
+    let e = ap (fits c.args.unit.now c.args.routine.now (scope_of c.args.around.now)) c.in-Guard.is ∙ fits-Guard c.args.unit.now c.args.routine.now (scope_of c.args.around.now) c.in-Guard.mark c.in-Guard.body c.in-Guard.handler c.in-Guard.to in
     grind (arith, e)

@@ -1,5 +1,5 @@
 use Rattle.std.proofs.Common.{◌≡◌, ◌+◌, ◌*◌, ◌≤◌, true, length, drop}
-use Rattle.tu_meaning.specs.Interpreter.{more_names, names_of}
+use Rattle.tu_tree_meaning.specs.Interpreter.{more_names, names_of}
 use Rattle.ir_build.specs.Keeps.{variables_of}
 use Rattle.ir_build.specs.Tokens.{tokens_in}
 use Rattle.ir_stmt.specs.Built.{are_new}

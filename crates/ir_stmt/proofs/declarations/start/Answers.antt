@@ -1,6 +1,6 @@
 use Rattle.std.proofs.Common.{◌≡◌}
 use Rattle.std.proofs.lemmas.Result.{on_ok_weaker}
-use Rattle.tu_meaning.specs.Interpreter.{names_of}
+use Rattle.tu_tree_meaning.specs.Interpreter.{names_of}
 use Rattle.ir_build.specs.Code.{made}
 use Rattle.ir_stmt.specs.Code.{started, store_all}
 use Rattle.ir_stmt.specs.Made.{declared}

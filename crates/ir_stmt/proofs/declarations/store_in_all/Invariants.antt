@@ -1,5 +1,5 @@
 use Rattle.std.proofs.Common.{◌≡◌, drop}
-use Rattle.tu_meaning.specs.Interpreter.{more_names, names_of}
+use Rattle.tu_tree_meaning.specs.Interpreter.{more_names, names_of}
 use Rattle.tu_value.specs.declared.pieces.Fixed.{Fixed}
 use Rattle.ir_stmt.specs.Code.{store_all}
 use Rattle.ir_stmt.proofs.Declaring.{listed}

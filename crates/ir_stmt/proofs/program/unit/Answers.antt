@@ -5,7 +5,8 @@ use Rattle.ir_form.specs.Lawful.{IsLawful}
 use Rattle.ir_form.specs.Valid.{IsValid}
 use Rattle.ir_form.specs.Weight.{unit_weight}
 use Rattle.ir_stmt.specs.Built.{is_program_built}
-use Rattle.ir_stmt.specs.Unit.{IsKept, unit_of}
+use Rattle.ir_stmt.specs.Unit.{HasNoGuards, IsKept, unit_of}
+use Rattle.ir_stmt.proofs.Valid.{program_is_unguarded}
 use Rattle.ir_stmt.proofs.Whole.{accepted_is_built, accepted_is_kept, accepted_is_valid, accepted_is_lawful, accepted_is_light, ok_holds}
 use Rattle.ir_stmt.proofs.program.unit.Goals as goal
 
@@ -40,3 +41,7 @@ returns-clause-weight c =
     let a = c.tree.ensures.accepted in
     ok_holds c.unit_of.result (unit_of c.tree.result.now) (λ unit. unit_weight unit ≤ 1179648)
     (subst (λ t. unit_weight (unit_of t) ≤ 1179648) (sym c.tree.ensures.value) (accepted_is_light c.args.checked.now a.0 a.1 c.accepted_has_limits.ensures)) c.unit_of.ensures
+
+pub returns-clause-unguarded : goal.returns-clause-unguarded
+returns-clause-unguarded c =
+    ok_holds c.unit_of.result (unit_of c.tree.result.now) (λ unit. HasNoGuards unit) (program_is_unguarded c.tree.result.now) c.unit_of.ensures

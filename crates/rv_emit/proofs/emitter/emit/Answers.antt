@@ -1,6 +1,6 @@
 use Rattle.std.proofs.Common.{◌≡◌, arith, refl}
 use Rattle.rv_alloc.specs.Assigned.{placed_code}
-use Rattle.rv_layout.specs.Text.{image_of}
+use Rattle.rv_text.specs.Text.{image_of}
 use Rattle.rv_emit.specs.Ready.{picture_of}
 use Rattle.rv_emit.proofs.Readying.{ready, agrees}
 use Rattle.rv_emit.proofs.emitter.emit.Goals as goal

@@ -1,6 +1,6 @@
 use Rattle.std.proofs.Common.{◌≡◌, arith, ◌∙◌}
 use Rattle.rv_alloc.specs.Assigned.{placed_code}
-use Rattle.rv_layout.specs.Text.{entry_at}
+use Rattle.rv_text.specs.Text.{entry_at}
 use Rattle.rv_emit.proofs.Entries.{entry_below}
 use Rattle.rv_emit.proofs.emitter.push_around.Goals as goal
 

@@ -1,7 +1,7 @@
 use Rattle.std.proofs.Common.{◌≡◌, ◌-◌, ◌≤◌, ◌++◌, take, drop, length}
 use Rattle.rv_runs.specs.Stands.{codes_of}
 use Rattle.rv_alloc.specs.Assigned.{placed_code}
-use Rattle.rv_layout.specs.Text.{addresses, entry_at, routines_at, routines_words}
+use Rattle.rv_text.specs.Text.{addresses, entry_at, routines_at, routines_words}
 use Rattle.rv_emit.specs.Placed.{routines_of}
 use Rattle.rv_emit.specs.Ready.{AllSmall}
 use Rattle.rv_emit.proofs.emitter.push_routines.Given as goal

@@ -3,7 +3,7 @@ use Rattle.std.specs.Prelude.{slice_get}
 use Rattle.std.proofs.lemmas.List.{drop_all}
 use Rattle.rv_flat.specs.declared.linear.Linear.{Linear}
 use Rattle.rv_alloc.specs.Assigned.{placed_code}
-use Rattle.rv_layout.specs.Lengths.{routines_length}
+use Rattle.rv_text.specs.Lengths.{routines_length}
 use Rattle.rv_emit.specs.Placed.{routines_of, length_in}
 use Rattle.rv_emit.proofs.Entries.{rest_length}
 use Rattle.rv_emit.proofs.Finding.{fewer}

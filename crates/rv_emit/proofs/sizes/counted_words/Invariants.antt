@@ -1,5 +1,5 @@
 use Rattle.std.proofs.Common.{◌≡◌, ◌+◌, ◌≤◌, drop}
-use Rattle.rv_layout.specs.Lengths.{routines_length}
+use Rattle.rv_text.specs.Lengths.{routines_length}
 use Rattle.rv_emit.specs.Placed.{routines_of, capped}
 use Rattle.rv_emit.proofs.sizes.counted_words.Given as goal
 

@@ -4,8 +4,8 @@ use Rattle.std.proofs.lemmas.List.{length-append}
 use Rattle.std.proofs.lemmas.Option.{slice_get_within}
 use Rattle.rv_flat.specs.declared.linear.Linear.{Linear}
 use Rattle.rv_alloc.specs.Assigned.{placed_code}
-use Rattle.rv_layout.specs.Lengths.{routine_length}
-use Rattle.rv_layout.specs.Text.{entry_at, label_at}
+use Rattle.rv_text.specs.Lengths.{routine_length}
+use Rattle.rv_text.specs.Text.{entry_at, label_at}
 use Rattle.rv_emit.specs.Placed.{placed_routine, routines_of}
 use Rattle.rv_emit.proofs.Entries.{entry_next, entry_end, entry_below, entries_found, routine_fits, no_more, entries_more, labels_more}
 use Rattle.rv_emit.proofs.survey.survey.Goals as goal

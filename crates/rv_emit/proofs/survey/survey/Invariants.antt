@@ -1,6 +1,6 @@
 use Rattle.std.proofs.Common.{◌≡◌, ℕ, ◌-◌, ◌<◌, ◌≤◌, length, get_or, Some}
 use Rattle.std.specs.Prelude.{slice_get}
-use Rattle.rv_layout.specs.Text.{entry_at}
+use Rattle.rv_text.specs.Text.{entry_at}
 use Rattle.rv_emit.specs.declared.site.Labels.{Labels}
 use Rattle.rv_emit.specs.Placed.{routines_of}
 use Rattle.rv_emit.specs.Site.{HasLabels}

@@ -94,7 +94,7 @@ returns-in-Err-Console-clause-leaves g c = λ input events files left_is events_
     leaves_cut c.runs_rest.ensures (run_on c.args.machine.now input files) c.args.budget ConsoleFault Console events files c.turns.machine c.advance.new.self
     (seen (g.C.Console.left c.turns.console) (g.C.Console.events c.turns.console) (g.K.Cabinet.files c.turns.cabinet) c.turns.streams)
     (record { left = g.C.Console.left c.serve.new.console; events = g.C.Console.events c.serve.new.console; files = g.K.Cabinet.files c.serve.new.cabinet })
-    c.in-Ask.service refl (λ is. absurd cc) u
+    c.in-Ask.service refl (λ other. absurd (other refl)) u
     (asked_well c.turns.machine c.advance.new.self _ c.in-Ask.service c.in-Ask.ensures.run)
     (rw c.in-Err-Console.field-0-is at (c.in-Err-Console.ensures.serves u.world events files u.told))
 
@@ -104,7 +104,7 @@ returns-in-Err-Cabinet-clause-leaves g c = λ input events files left_is events_
     leaves_cut c.runs_rest.ensures (run_on c.args.machine.now input files) c.args.budget CabinetFault Cabinet events files c.turns.machine c.advance.new.self
     (seen (g.C.Console.left c.turns.console) (g.C.Console.events c.turns.console) (g.K.Cabinet.files c.turns.cabinet) c.turns.streams)
     (record { left = g.C.Console.left c.serve.new.console; events = g.C.Console.events c.serve.new.console; files = g.K.Cabinet.files c.serve.new.cabinet })
-    c.in-Ask.service refl (λ is. absurd cc) u
+    c.in-Ask.service refl (λ _ e. cc e) u
     (asked_well c.turns.machine c.advance.new.self _ c.in-Ask.service c.in-Ask.ensures.run)
     (rw c.in-Err-Cabinet.field-0-is at (c.in-Err-Cabinet.ensures.serves u.world events files u.told))
 
@@ -114,6 +114,6 @@ returns-in-Err-Memory-clause-leaves g c = λ input events files left_is events_a
     leaves_cut c.runs_rest.ensures (run_on c.args.machine.now input files) c.args.budget Memory no_memory events files c.turns.machine c.advance.new.self
     (seen (g.C.Console.left c.turns.console) (g.C.Console.events c.turns.console) (g.K.Cabinet.files c.turns.cabinet) c.turns.streams)
     (record { left = g.C.Console.left c.serve.new.console; events = g.C.Console.events c.serve.new.console; files = g.K.Cabinet.files c.serve.new.cabinet })
-    c.in-Ask.service refl (λ is. refl) u
+    c.in-Ask.service refl (λ _ e. cc e) u
     (asked_well c.turns.machine c.advance.new.self _ c.in-Ask.service c.in-Ask.ensures.run)
     (rw c.in-Err-Memory.field-0-is at (c.in-Err-Memory.ensures.serves u.world events files u.told))

@@ -1,9 +1,10 @@
+use Rattle.std.proofs.Common.{arith}
 use Rattle.rv_host.proofs.Telling.{byte_served, end_served, get_cut}
 use Rattle.rv_host.proofs.service.get_console.Goals as goal
 
 pub returns-in-Ok-Some-clause-serves : goal.returns-in-Ok-Some-clause-serves
 returns-in-Ok-Some-clause-serves g c = λ fo streams w events files tells.
-    byte_served events files w c.in-Ok-Some.byte _ _ _ _ fo streams tells
+    byte_served events files w c.in-Ok-Some.byte (omega arith) _ _ _ _ fo streams tells
     (rw c.in-Ok-Some.field-0-is at c.in-Ok-Some.ensures.taken) (rw c.in-Ok-Some.field-0-is at c.in-Ok-Some.ensures.read)
 
 pub returns-in-Ok-None-clause-serves : goal.returns-in-Ok-None-clause-serves

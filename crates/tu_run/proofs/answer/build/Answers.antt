@@ -18,4 +18,4 @@ pub returns-in-Err-clause-any : goal.returns-in-Err-clause-any
 returns-in-Err-clause-any g c = λ left events faults.
     let shows = fails_shows c.in-Err.status (c.in-Err.ensures.makes.read.kind c.in-Err.status refl) in
     rw c.plain.ensures (nothing_done _ c.in-Err.status (g.K.Cabinet.files c.made_image.new.cabinet) (g.K.Cabinet.faults c.made_image.new.cabinet)
-    c.made_image.ensures.files c.made_image.ensures.later shows.1 (λ e. c.in-Err.ensures.fault (ap Err e)))
+    c.made_image.ensures.later shows.1 (λ e. c.in-Err.ensures.fault (ap Err e)))

@@ -1,5 +1,8 @@
-use Rattle.tu_run.proofs.Answering.{image_ran}
+use Rattle.tu_run.proofs.Answering.{image_ran, not_loaded}
 use Rattle.tu_run.proofs.answer.run_image.Goals as goal
+
+pub returns-in_default-clause-runs : goal.returns-in_default-clause-runs
+returns-in_default-clause-runs g c = not_loaded c.args.image c.args.budget _
 
 pub returns-clause-runs : goal.returns-clause-runs
 returns-clause-runs g c =

@@ -3,8 +3,8 @@ use Rattle.std.specs.Prelude.{nat_eq}
 use Rattle.std.specs.HashMap.{get}
 use Rattle.std.specs.Option.{unwrap_or}
 use Rattle.rv_alloc.specs.Renamed.{renamed}
-use Rattle.rv_layout.specs.Lengths.{routine_length, code_length, label_offset}
-use Rattle.rv_layout.specs.Text.{label_at}
+use Rattle.rv_text.specs.Lengths.{routine_length, code_length, label_offset}
+use Rattle.rv_text.specs.Text.{label_at}
 use Rattle.rv_emit.specs.Placed.{frame_head, number_in, placed_routine, routines_of}
 use Rattle.rv_emit.proofs.frame.Frame.labels.Given as goal
 

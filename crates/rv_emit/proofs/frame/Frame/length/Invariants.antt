@@ -1,6 +1,6 @@
 use Rattle.std.proofs.Common.{◌≡◌, ◌+◌, ◌≤◌, drop, map}
 use Rattle.rv_alloc.specs.Renamed.{renamed}
-use Rattle.rv_layout.specs.Lengths.{routine_length, code_length}
+use Rattle.rv_text.specs.Lengths.{routine_length, code_length}
 use Rattle.rv_emit.specs.Placed.{frame_head, number_in, placed_routine, routines_of, capped}
 use Rattle.rv_emit.proofs.frame.Frame.length.Given as goal
 

@@ -1,5 +1,5 @@
 use Rattle.std.proofs.Common.{◌≡◌, ◌++◌, length}
-use Rattle.rv_layout.specs.Text.{packed}
+use Rattle.rv_text.specs.Text.{packed}
 use Rattle.rv_pieces.proofs.output.Output.push_texts.Given as goal
 
 abbrev pub invariant-words : goal.invariant-words

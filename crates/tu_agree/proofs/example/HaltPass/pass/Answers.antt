@@ -1,5 +1,5 @@
 use Rattle.std.proofs.Common.{◌≡◌, rules, sym, subst}
-use Rattle.tu_meaning.specs.Programs.{meaning}
+use Rattle.tu_tree_meaning.specs.Programs.{meaning}
 use Rattle.tu_agree.specs.Agrees.{over_folder}
 use Rattle.tu_agree.specs.Example.{empty_program, halting}
 use Rattle.tu_agree.specs.Keep.{KeepsInstructions}

@@ -1,5 +1,0 @@
-use Rattle.rv_layout.proofs.Whole.{images_are_places}
-use Rattle.rv_layout.proofs.laws.image_is_allowed.Goals as goal
-
-pub returns-clause-places : goal.returns-clause-places
-returns-clause-places c = images_are_places

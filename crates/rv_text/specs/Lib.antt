@@ -1,0 +1,4 @@
+pub mod Lengths
+pub mod Text
+pub mod Ready
+pub mod Agrees

@@ -1,5 +1,0 @@
-use Rattle.tu_meaning.proofs.ProgramLaws.{trace_grows as proved}
-use Rattle.tu_meaning.proofs.program_laws.program_trace_grows.Goals as goal
-
-pub returns : goal.returns
-returns c = proved

@@ -1,0 +1,6 @@
+-- of this crate alone
+mod Sources
+mod ProgramRows
+mod Alike
+mod Forms
+mod ProgramLaws

@@ -1,0 +1,10 @@
+pub mod Steps
+pub mod Meaning
+pub mod Laws
+pub mod Values
+pub mod Operators
+pub mod Store
+pub mod Rooms
+pub mod Interpreter
+pub mod Programs
+pub mod ProgramLaws
