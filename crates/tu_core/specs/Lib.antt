@@ -5,3 +5,8 @@ pub mod Rooms
 pub mod Walk
 pub mod Places
 pub mod WellFormed
+pub mod Acts
+pub mod Effects
+pub mod Overlap
+pub mod Rules
+pub mod Typed

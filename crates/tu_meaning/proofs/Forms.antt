@@ -33,7 +33,7 @@ module _ (S S' : Type 0) (p : Passing S) (p' : Passing S') (turns turns' : ℕ) 
     pub enter : (actuals : List Actual) (s : S) (r : S') → R s r → R (p.enter actuals s) (p'.enter actuals r)
     pub leave : (actuals : List Actual) (o s : S) (o' r : S') → R o o' → R s r → R (p.leave actuals o s) (p'.leave actuals o' r)
     pub bind : (is_var : Bool) (x : ℕ) (q : Place) (s : S) (r : S') → R s r → R (p.bind is_var x q s) (p'.bind is_var x q r)
-    pub unbind : (is_var : Bool) (x : ℕ) (q : Place) (s : S) (r : S') → R s r → R (p.unbind is_var x q s) (p'.unbind is_var x q r)
+    pub unbind : (is_var : Bool) (x : ℕ) (q : Place) (o s : S) (o' r : S') → R o o' → R s r → R (p.unbind is_var x q o s) (p'.unbind is_var x q o' r)
 
   module _ (k : Kept) (program : Program) (words : List ℕ) where
     -- a text on the left, and on the right
@@ -329,7 +329,7 @@ module _ (S S' : Type 0) (p : Passing S) (p' : Passing S') (turns turns' : ℕ) 
         sim_parts Empty = gives Next
         sim_parts (Then s more) = sim_execute s ▹ λ flow. sim_and_then flow _ _ (sim_parts more)
         sim_parts (Declare at d more) = sim_declare at.line d ▹ λ _. sim_parts more
-        sim_parts (Bind at x is_var path more) = sim_pay 1 ▹ λ _. sim_locate at.line path ▹ λ q. sim_scope _ _ _ _ (k.bind is_var x q) (λ o s o' r outer. k.unbind is_var x q s r) (λ o s o' r outer. k.unbind is_var x q s r) (sim_parts more)
+        sim_parts (Bind at x is_var path more) = sim_pay 1 ▹ λ _. sim_locate at.line path ▹ λ q. sim_scope _ _ _ _ (k.bind is_var x q) (k.unbind is_var x q) (k.unbind is_var x q) (sim_parts more)
 
     sim_result_of : (n line : ℕ) (flow : Flow) → Sims S S' turns turns' R n Back (result_of S p turns program words line flow) (result_of S' p' turns' program words line flow)
     sim_result_of n line Next = raises kind.Result line

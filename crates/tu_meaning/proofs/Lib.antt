@@ -1,5 +1,5 @@
-mod Alike
-mod WordForms
+pub mod Alike
+pub mod WordForms
 mod Forms
 mod ProgramLaws
 mod Tests

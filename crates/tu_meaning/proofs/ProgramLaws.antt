@@ -46,7 +46,7 @@ module _ (S : Type 0) (p : Passing S) (store : S) where
     enter = λ actuals s r e. ap (λ x. p.enter actuals x) e;
     leave = λ actuals o s o' r d e. both (λ x y. p.leave actuals x y) d e;
     bind = λ is_var x q s r e. ap (λ y. p.bind is_var x q y) e;
-    unbind = λ is_var x q s r e. ap (λ y. p.unbind is_var x q y) e;
+    unbind = λ is_var x q o s o' r d e. both (λ y z. p.unbind is_var x q y z) d e;
   }
 
   abbrev run_of : Program → List ℕ → Option Folder → (t depth : ℕ) → Added × Outcome S Flow

@@ -11,3 +11,4 @@ mod Marks
 mod Statements
 mod Results
 mod Operators
+mod ByReference

@@ -1,5 +1,6 @@
 pub mod Steps
 pub mod Store
+pub mod References
 pub mod Words
 pub mod Expressions
 pub mod Statements

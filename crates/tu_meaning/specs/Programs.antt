@@ -12,6 +12,7 @@ use Rattle.tu_meaning.specs.Meaning.{Meant, meant}
 use Rattle.tu_meaning.specs.Words.{Flow}
 use Rattle.tu_meaning.specs.Steps.{Step, Added, State, Outcome}
 use Rattle.tu_meaning.specs.Store.{Passing, Store, unset_store, by_copying}
+use Rattle.tu_meaning.specs.References.{Cells, unset_cells, by_reference}
 
 -- the files of a finite map, by their names
 abbrev pub folder_of : Option Files → Option Folder
@@ -37,3 +38,7 @@ meaning_over S passing store p input files t = meant (execution_over S passing s
 -- The meaning of a program: values are copied. It is given an input, and files that can be opened, or none where all are closed.
 abbrev pub meaning : Program → (input : List ℕ) → (files : Option Folder) → (t : ℕ) → Meant
 meaning p input files t = meaning_over Store by_copying unset_store p input files t
+
+-- The reference meaning: what is lent or bound is a location. Storage and units are those of the meaning.
+abbrev pub reference_meaning : Program → (input : List ℕ) → (files : Option Folder) → (t : ℕ) → Meant
+reference_meaning p input files t = meaning_over Cells by_reference unset_cells p input files t

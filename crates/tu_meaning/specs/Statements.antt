@@ -438,4 +438,4 @@ module _ {S : Type 0} (here : Running S) where
     execute_parts (Bind at x is_var path more) = do
       pay 1
       p ← locate here at.line path
-      scope (here.passing.bind is_var x p) (λ opened s. here.passing.unbind is_var x p s) (execute_parts more)
+      scope (here.passing.bind is_var x p) (here.passing.unbind is_var x p) (execute_parts more)

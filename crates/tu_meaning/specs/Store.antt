@@ -46,9 +46,9 @@ pub record Passing (S : Type 0) : Type 0 where
   -- A call begins: its formals receive their actuals. As it is left, in the store of its caller, which stands first.
   pub enter : List Actual → S → S
   pub leave : List Actual → S → S → S
-  -- a name of the activation is bound to a place, and its scope is left
+  -- A name of the activation is bound to a place. As its scope is left, in the store that it began in, which stands first.
   pub bind : (is_var : Bool) → (name : ℕ) → Place → S → S
-  pub unbind : (is_var : Bool) → (name : ℕ) → Place → S → S
+  pub unbind : (is_var : Bool) → (name : ℕ) → Place → S → S → S
 
 -- the names of the program, those and the temporaries of the running activation, and the elements of collections
 pub record Store : Type 0 where
@@ -107,9 +107,10 @@ copied_back (LentPlace true bounds p ∷ more) x ended s = copied_back more (suc
 abbrev pub with_names_of : Store → Store → Store
 with_names_of caller ended = record ended { locals = caller.locals; temporaries = caller.temporaries }
 
-abbrev pub unbound : Bool → (name : ℕ) → Place → Store → Store
-unbound false name p s = s
-unbound true name p s = assign s p (s.locals name).content
+-- A name of `bind var` is copied back, and each name is as it was before.
+abbrev pub unbound : Bool → (name : ℕ) → Place → (opened : Store) → Store → Store
+unbound false name p opened s = with_held s (OfActivation name) (opened.locals name)
+unbound true name p opened s = with_held (assign s p (s.locals name).content) (OfActivation name) (opened.locals name)
 
 -- Values are copied, and nothing shares them.
 abbrev pub by_copying : Passing Store

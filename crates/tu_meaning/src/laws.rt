@@ -1,5 +1,6 @@
 ghost use Rattle.tu_core.specs.Core.{Program};
 ghost use Rattle.tu_meaning.specs.Laws.{KeepsTurns, NeverStuck};
+ghost use Rattle.tu_meaning.specs.References.{Cells, by_reference, unset_cells};
 ghost use Rattle.tu_meaning.specs.Store.{Store, by_copying, unset_store};
 
 /// What holds of the meaning of each program in the number of turns: a run that is over stays the
@@ -13,4 +14,14 @@ pub fn meaning_keeps_turns()
 /// within no number of turns is it stuck.
 pub fn well_formed_is_never_stuck()
     ensures { (program : Program) → NeverStuck Store by_copying unset_store program }
+{}
+
+/// The same holds of the reference meaning.
+pub fn reference_meaning_keeps_turns()
+    ensures { (program : Program) → KeepsTurns Cells by_reference unset_cells program }
+{}
+
+/// Nor is a well formed program ever stuck in the reference meaning.
+pub fn well_formed_references_are_never_stuck()
+    ensures { (program : Program) → NeverStuck Cells by_reference unset_cells program }
 {}

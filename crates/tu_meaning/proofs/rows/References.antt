@@ -17,7 +17,7 @@ use Rattle.tu_meaning.proofs.rows.Making.{within, comes, line, on, span, int_sha
 abbrev narrow : Formal
 narrow = ByValue (TakesScalar (span 1 3))
 
-abbrev two_ints : List Shape
+abbrev pub two_ints : List Shape
 two_ints = int_shape ∷ (Array (span 1 2 ∷ []) 0 ∷ [])
 
 -- var a : array 1 .. 2 of int := init (1, 2)
@@ -28,7 +28,7 @@ two_ints = int_shape ∷ (Array (span 1 2 ∷ []) 0 ∷ [])
 --   x := 9
 -- end
 -- put a (1), " ", a (2)
-abbrev bound : Program
+abbrev pub bound : Program
 bound = record (program two_ints (1 ∷ (0 ∷ [])) []
     (var_from 1 1 (Global 0 ∷ []) (WithParts 1 (AndStart (from (int 1)) (AndStart (from (int 2)) NoStart))) (var_from 2 0 (Global 1 ∷ []) (from (int 2))
     (Then (Begin (on 3) (Bind (on 4) 0 true (global_at 0 (item_at 1 (number (global 1)))) (Then (set 5 (global 1) (int 1)) (only (set 6 (local 0) (int 9))))))
@@ -83,7 +83,7 @@ row_bound_left = refl
 --   result t
 -- end total
 -- The formal is a location; t is local 1, and i local 2.
-abbrev total : Routine
+abbrev pub total : Routine
 total = record (function (ByCopy 1 ∷ []) (Declared 0 ∷ (Counter ∷ [])) (var_from 2 0 (Local 1 ∷ []) (from (int 0))
     (Then (For (on 3) 2 false (FromTo (int 1) (Bound 0 true (Open (pos 1) ∷ []) (local 0) Absent)) None
     (only (set 4 (local 1) (plus (number (local 1)) (number (OpenItem (on 4) (Local 0) (Open (pos 1) ∷ []) (Subscript None (number (local 2)) NoSubscript) End))))))
@@ -91,7 +91,7 @@ total = record (function (ByCopy 1 ∷ []) (Declared 0 ∷ (Counter ∷ [])) (va
 
 -- var b : array 1 .. 3 of int := init (4, 5, 6)
 -- put total (b)
-abbrev totalled : Program
+abbrev pub totalled : Program
 totalled = program (int_shape ∷ (Array (span 1 3 ∷ []) 0 ∷ [])) (1 ∷ []) (total ∷ [])
     (var_from 8 1 (Global 0 ∷ []) (WithParts 1 (AndStart (from (int 4)) (AndStart (from (int 5)) (AndStart (from (int 6)) NoStart))))
     (only (put 9 (show (answer 0 (Lent (on 9) false (Some (pos 3 ∷ [])) (global 0) NoActual)) NoneShown))))

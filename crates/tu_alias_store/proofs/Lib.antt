@@ -1,0 +1,5 @@
+pub mod Ways
+pub mod Stores
+pub mod Lent
+pub mod Related
+pub mod Changes
