@@ -29,7 +29,8 @@ use Rattle.tu_expr.specs.Views.{signed, multiplied}
 use Rattle.tu_expr.specs.Levels.{OnlyCompare, OnlySum, OnlyPrimary}
 use Rattle.tu_expr.specs.Forms.{NoMore, More, Compare, Related, Sum, Term, Prefix, Power, Added, Subtracted, Multiplied, Divided, Reduced, NumberValue, TrueValue, FalseValue, PathValue, Brackets, TextValue, NilValue, Path}
 use Rattle.tu_tree_meaning.specs.Values.{variable_of}
-use Rattle.tu_value.specs.Comparisons.{Comparison, comparison_of}
+use Rattle.tu_value.specs.Comparisons.{Comparison}
+use Rattle.ir_build.specs.Relations.{comparison_of}
 use Rattle.tu_value.specs.Meets.{OnlyFrom}
 use Rattle.tu_value.specs.Pieces.{with_piece, literal_code, fetch_code, sum_code, difference_code, product_code, more_code, less_code}
 use Rattle.tu_value.specs.declared.pieces.Fixed.{Fixed}

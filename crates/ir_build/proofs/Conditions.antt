@@ -8,16 +8,19 @@ use Rattle.ir_code.proofs.Running.{runs_in_order}
 use Rattle.ir_code.specs.declared.code.Code.{Code}
 use Rattle.tu_token.specs.Rules.{r-expr, r-compare, r-relation}
 use Rattle.tu_token.specs.Syntax.{Of}
-use Rattle.tu_expr.specs.Forms.{NoMore, More, Compare, Related}
+use Rattle.tu_base.specs.declared.operator.Relation.TheVariants as base
+use Rattle.tu_base.specs.Scalars.{is_int}
+use Rattle.tu_expr.specs.Forms.{NoMore, More, Compare, Related, Equal, NotEqual, Less, Greater, LessOrEqual, GreaterOrEqual, In, NotIn}
 use Rattle.tu_expr.specs.Levels.{OnlyCompare}
-use Rattle.tu_tree_meaning.specs.Operators.{relate}
+use Rattle.tu_tree_meaning.specs.Operators.{Answer, NoRule, relate, truth}
 use Rattle.tu_tree_meaning.specs.Interpreter.{answered, evaluate_compare, evaluate_sum, condition, truth_of}
 use Rattle.tu_tree_meaning.specs.Steps.{Step, give, pay, ◌>>=◌, ◌>>◌}
 use Rattle.tu_tree_meaning.specs.Store.{Store, by_copying}
 use Rattle.tu_tree_meaning.specs.Values.{Value, Int, Truth, Variable}
-use Rattle.tu_value.specs.Comparisons.{Comparison, comparison_of, compares, compared}
+use Rattle.tu_value.specs.Comparisons.{Comparison, compares}
 use Rattle.tu_value.specs.Words.{word_of_int}
-use Rattle.tu_value.proofs.Comparing.{relations_hold}
+use Rattle.tu_value.proofs.Comparing.{relations_hold as scalars_compare}
+use Rattle.ir_build.specs.Relations.{comparison_of}
 use Rattle.ir_build.specs.Keeps.{Named, Site, Keeps, Tells}
 use Rattle.ir_build.specs.Code.{Made, tested, code_sum, test_expr, test_compare}
 use Rattle.ir_build.specs.Does.{Does, TestDoes}
@@ -26,6 +29,21 @@ use Rattle.ir_build.specs.Built.{is_built_sum, is_tested, is_tested_compare}
 use Rattle.ir_build.proofs.Words.{Passes, passes_next, keeps_flow, keeps_is, keeps_more, keeps_paid, keeps_give, keeps_given, keeps_grouped}
 use Rattle.ir_build.proofs.Forms.{no_so, both, expr_does, sum_built}
 use Rattle.ir_build.proofs.Pieces.{operators}
+
+-- what a relation says of two ints is what its comparison says of their words
+abbrev compared : Option Comparison → (left right : ℕ) → Answer
+compared None left right = NoRule
+compared (Some c) left right = truth (compares c left right)
+
+relations_hold : (relation : Of r-relation) (x y : ℤ) → is_int x ≡ true → is_int y ≡ true → relate relation (Int x) (Int y) ≡ compared (comparison_of relation) (word_of_int x) (word_of_int y)
+relations_hold (Equal m _) x y e f = ap truth (scalars_compare base.Equal x y e f)
+relations_hold (NotEqual m _) x y e f = ap truth (scalars_compare base.NotEqual x y e f)
+relations_hold (Less m _) x y e f = ap truth (scalars_compare base.Less x y e f)
+relations_hold (Greater m _) x y e f = ap truth (scalars_compare base.Greater x y e f)
+relations_hold (LessOrEqual m _) x y e f = ap truth (scalars_compare base.LessOrEqual x y e f)
+relations_hold (GreaterOrEqual m _) x y e f = ap truth (scalars_compare base.GreaterOrEqual x y e f)
+relations_hold (In m _) x y e f = refl
+relations_hold (NotIn m _ _) x y e f = refl
 
 abbrev as_it_is : How → CodeState → ℕ → Run
 as_it_is how st c = record { how = how; state = st; cost = c }

@@ -4,6 +4,7 @@ use Rattle.std.specs.Prelude.{◌&&◌, nat_le, min, pos, ◌+ℤ◌, ◌-ℤ◌
 use Rattle.std.proofs.lemmas.Bool.Decides.{nat_tests}
 use Rattle.grammar.specs.Tree.{Mark, n-rule, n-right, height}
 use Rattle.tu_base.specs.declared.kind.Kind.TheVariants as kind
+use Rattle.tu_base.specs.Scalars.{is_int}
 use Rattle.tu_base.specs.Trace.{Trace}
 use Rattle.rv_image.specs.Streams.{traced}
 use Rattle.ir_form.specs.Meaning.{run_list}
@@ -17,17 +18,17 @@ use Rattle.tu_expr.specs.Parts.{Part, text_of}
 use Rattle.tu_expr.specs.Views.{signed, multiplied}
 use Rattle.tu_expr.specs.Levels.{OnlySum, OnlyPrimary}
 use Rattle.tu_expr.specs.Forms.{NoMore, More, Sum, Term, Prefix, Power, Added, Subtracted, Multiplied, Divided, Reduced, NumberValue, TrueValue, FalseValue, PathValue, Brackets, TextValue, NilValue, Path}
-use Rattle.tu_tree_meaning.specs.Operators.{plus, minus, times, is_int}
+use Rattle.tu_tree_meaning.specs.Operators.{plus, minus, times}
 use Rattle.tu_tree_meaning.specs.Interpreter.{answered, read, evaluate, evaluate_sum, add, evaluate_term, multiply, evaluate_prefix, evaluate_primary}
 use Rattle.tu_tree_meaning.specs.Steps.{State, Step, give, pay, look, ◌>>=◌, ◌>>◌}
 use Rattle.tu_tree_meaning.specs.Store.{Store, by_copying, fetch_root}
-use Rattle.tu_tree_meaning.specs.Values.{Value, Unset, Int, Truth, Variable, variable_of, Place, place_of}
+use Rattle.tu_tree_meaning.specs.Values.{Value, Unset, Int, Truth, Variable, variable_of, int_in, Place, place_of}
 use Rattle.tu_value.specs.Laws.{fetch_most}
-use Rattle.tu_value.specs.Meets.{GivesValue, Meets, fetched}
+use Rattle.tu_value.specs.Meets.{GivesInt, Meets, fetched}
 use Rattle.tu_value.proofs.Leaves.{fetch_meets, literal_meets}
-use Rattle.tu_value.specs.Words.{word_of, IsSmall}
+use Rattle.tu_value.specs.Words.{IsSmall}
 use Rattle.tu_value.specs.Pieces.{literal_code, fetch_code, sum_code, difference_code, product_code, more_code, less_code}
-use Rattle.ir_build.specs.Keeps.{factor, Named, Site, word_at, IsStored, Holds, Post, Keeps, Gives}
+use Rattle.ir_build.specs.Keeps.{factor, Named, Site, word_at, stored_word, IsStored, Holds, Post, Keeps, Gives}
 use Rattle.ir_build.specs.Code.{plus as code_plus, minus as code_minus, fetched as code_fetched, Made, with_value, number_of, literal_of, code_expr, code_sum, code_terms, code_term, code_factors, code_prefix, code_primary}
 use Rattle.ir_build.specs.Built.{is_built, is_built_sum, are_built_terms, is_built_term, are_built_factors, is_built_prefix, is_built_primary}
 use Rattle.ir_build.specs.Does.{Does}
@@ -73,12 +74,12 @@ no_number e = subst IsNone e tt
 small_number : (n : ℕ) → nat_le n 2147483647 ≡ true → (min n 2147483647 ≡ n) × (n ≤ 2147483647)
 small_number n e = let le : n ≤ 2147483647 = grind (arith, nat_tests, e) in (omega (arith, le), le)
 
-is_small : (v : Value) → IsStored v → IsSmall v
+is_small : (v : Value) → IsStored v → IsSmall (int_in v)
 is_small Unset h = tt
 is_small (Int z) h = h
 is_small (Truth b) h = absurd h
 
-read_keeps : {x : Site} {left : ℕ} {tr : Trace} {b : ℕ} (line n at : ℕ) (v : Value) (s : State Store) (st : CodeState) (c : ℕ) (r : Run) → x.low ≤ n → Holds x left s st c → st.world ≡ traced x.world tr → c ≤ b → IsStored v → Meets line n n fetch_most (fetched v) st c r → Keeps x (Gives x left n n st.env) tr (b + factor) (read line v s) r
+read_keeps : {x : Site} {left : ℕ} {tr : Trace} {b : ℕ} (line n at : ℕ) (v : Value) (s : State Store) (st : CodeState) (c : ℕ) (r : Run) → x.low ≤ n → Holds x left s st c → st.world ≡ traced x.world tr → c ≤ b → IsStored v → Meets line n n fetch_most (fetched (int_in v)) st c r → Keeps x (Gives x left n n st.env) tr (b + factor) (read line v s) r
 read_keeps line n at Unset s st c r low h w le i m = keeps_raise kind.Unset line s r m.how (world_of m.only ∙ w) (let q = m.costs.bound in omega arith)
 read_keeps line n at (Int z) s st c r low h w le i m = keeps_give (Int z) s r (after_piece z s st c fetch_most r low (omega arith) h (λ j lt. refl) i m) (world_of m.only ∙ w) (let q = m.costs.bound in omega arith)
 read_keeps line n at (Truth b) s st c r low h w le i m = absurd i
@@ -124,7 +125,7 @@ module _ (x : Site) (calls : Calls) (depth line : ℕ) where
         keeps = λ left s st c tr b h w le.
             let number = number_of (text_of digits) in
             let r = run_list x.setting calls (literal_code number code.next) st c in
-            let g : GivesValue code.next code.next 5 (Int (pos number)) st c r = literal_meets x.setting calls number line code.next st c (let i = q.0 in let l = q.1 in omega arith) in
+            let g : GivesInt code.next code.next 5 (pos number) st c r = literal_meets x.setting calls number line code.next st c (let i = q.0 in let l = q.1 in omega arith) in
             keeps_paid 1 s (give (Int (pos n))) _ (subst (λ y. Keeps x (Gives x left code.next code.next st.env) tr (b + factor * 1) (give (Int (pos y)) s) r) q.0
             (keeps_give (Int (pos number)) s r (after_piece (pos number) s st c 5 r low (omega arith) h (λ j lt. refl) (subst (λ y. is_int (pos y) ≡ true) (sym q.0) e) g) (world_of g.only ∙ w) (let z = g.costs.bound in omega arith)));
       }
@@ -139,7 +140,7 @@ module _ (x : Site) (calls : Calls) (depth line : ℕ) where
         let y = variable_of root in let g = place_of y in let k : Place → Step Store Value = λ place. look (λ s. fetch_root s place.root) >>= λ v. read line v in
         keeps_grouped (pay 1) (λ _. give g) k s _ (keeps_paid 1 s (give g >>= k) _ (keeps_given g k s _ (keeps_look (λ s. fetch_root s g.root) (λ v. read line v) s _
         (let l = lies_of x s.store st y f.it x.names f.is h.variables in
-        read_keeps line code.next f.it.at (s.store.globals y) s st c _ low h w le (h.values y) (fetch_meets x.setting calls x.fixed (s.store.globals y) line f.it.at code.next (word_at x.setting f.it.word) st c (fixed_above x low h.fixed) l.address (l.stored ∙ ap (λ z. Some (word_of (s.store.globals z))) (sym f.name)) (is_small (s.store.globals y) (h.values y)))))));
+        read_keeps line code.next f.it.at (s.store.globals y) s st c _ low h w le (h.values y) (fetch_meets x.setting calls x.fixed (int_in (s.store.globals y)) line f.it.at code.next (word_at x.setting f.it.word) st c (fixed_above x low h.fixed) l.address (l.stored ∙ ap (λ z. Some (stored_word (s.store.globals z))) (sym f.name)) (is_small (s.store.globals y) (h.values y)))))));
   }
 
   abbrev declared : List Variable

@@ -3,6 +3,8 @@ use Rattle.std.proofs.Common.{◌≡◌, ℕ, ◌+◌, ◌*◌, ◌<◌, ◌≤�
 use Rattle.std.specs.Prelude.{if◌then◌else◌, ℤ, pos}
 use Rattle.std.proofs.lemmas.List.{append-nil}
 use Rattle.tu_base.specs.declared.kind.Kind.TheVariants as kind
+use Rattle.tu_base.specs.Scalars as scalars
+use Rattle.tu_base.specs.Scalars.{is_int}
 use Rattle.tu_base.specs.Trace.{Trace}
 use Rattle.rv_image.specs.Streams.{traced}
 use Rattle.ir_form.specs.declared.op.Op.{Op}
@@ -11,13 +13,13 @@ use Rattle.ir_form.specs.Meaning.{run_list}
 use Rattle.ir_form.specs.State.{State as CodeState, Env, How, Next, Left, Throws, Ends, Over, Run, next, on_run, on_how}
 use Rattle.ir_code.proofs.Running.{runs_in_order}
 use Rattle.ir_code.specs.declared.code.Code.{Code}
-use Rattle.tu_tree_meaning.specs.Operators.{Answer, Gives as AnswersWith, Raises, is_int, exact}
+use Rattle.tu_tree_meaning.specs.Operators.{Answer, Gives as AnswersWith, Raises, exact}
 use Rattle.tu_tree_meaning.specs.Interpreter.{answered}
 use Rattle.tu_tree_meaning.specs.Steps.{State, Step, give, pay, ◌>>=◌, ◌>>◌}
 use Rattle.tu_tree_meaning.specs.Store.{Store}
 use Rattle.tu_tree_meaning.specs.Values.{Value, Int}
 use Rattle.tu_value.specs.Words.{word_of_int}
-use Rattle.tu_value.specs.Meets.{OnlyFrom, GivesValue, Meets, HasFixed}
+use Rattle.tu_value.specs.Meets.{OnlyFrom, GivesInt, Meets, HasFixed}
 use Rattle.ir_build.specs.Keeps.{factor, Site, Holds, Post, Keeps, Gives}
 use Rattle.ir_build.specs.Code.{Made, with_values}
 use Rattle.ir_build.specs.Does.{Does}
@@ -25,7 +27,7 @@ use Rattle.ir_build.proofs.Words.{passes_next, keeps_flow, keeps_is, keeps_more,
 use Rattle.ir_build.proofs.States.{holds_only, fixed_above}
 
 -- what a piece leaves, seen from before it
-pub after_piece : {x : Site} {left n at base : ℕ} {env : Env} (z : ℤ) (s : State Store) (st : CodeState) (c most : ℕ) (r : Run) → x.low ≤ n → base ≤ n → Holds x left s st c → ((j : ℕ) → j < base → st.env j ≡ env j) → is_int z ≡ true → GivesValue n at most (Int z) st c r → Gives x left at base env (Int z) s r.how r.state r.cost
+pub after_piece : {x : Site} {left n at base : ℕ} {env : Env} (z : ℤ) (s : State Store) (st : CodeState) (c most : ℕ) (r : Run) → x.low ≤ n → base ≤ n → Holds x left s st c → ((j : ℕ) → j < base → st.env j ≡ env j) → is_int z ≡ true → GivesInt n at most z st c r → Gives x left at base env (Int z) s r.how r.state r.cost
 after_piece z s st c most r ln lb h kept small g = record {
   goes = g.how;
   holds = holds_only g.only ln g.costs.begun h;
@@ -42,25 +44,25 @@ world_of o = ap (λ (z : CodeState). z.world) o.same
 module _ {x : Site} where
   -- an operator's answer, and what its piece comes to
   exact_keeps : {left at base n most : ℕ} {env : Env} {tr : Trace} {b : ℕ} (line : ℕ) (z : ℤ) (big : Bool) (s : State Store) (st : CodeState) (c : ℕ) (r : Run) → is_int z ≡ big → x.low ≤ n → base ≤ n → most ≤ factor → Holds x left s st c → ((j : ℕ) → j < base → st.env j ≡ env j) → st.world ≡ traced x.world tr → c ≤ b →
-      Meets line n at most (if big then AnswersWith (Int z) else Raises kind.Overflow) st c r → Keeps x (Gives x left at base env) tr (b + factor) (answered line (if big then AnswersWith (Int z) else Raises kind.Overflow) s) r
+      Meets line n at most (if big then scalars.Gives z 0 else scalars.Raises kind.Overflow 0) st c r → Keeps x (Gives x left at base env) tr (b + factor) (answered line (if big then AnswersWith (Int z) else Raises kind.Overflow) s) r
   exact_keeps line z true s st c r e ln lb lm h kept w le m = keeps_give (Int z) s r (after_piece z s st c _ r ln lb h kept e m) (world_of m.only ∙ w) (let q = m.costs.bound in omega arith)
   exact_keeps line z false s st c r e ln lb lm h kept w le m = keeps_raise kind.Overflow line s r m.how (world_of m.only ∙ w) (let q = m.costs.bound in omega arith)
 
   pub answer_keeps : {left at base n most : ℕ} {env : Env} {tr : Trace} {b : ℕ} (line : ℕ) (z : ℤ) (s : State Store) (st : CodeState) (c : ℕ) (r : Run) → x.low ≤ n → base ≤ n → most ≤ factor → Holds x left s st c → ((j : ℕ) → j < base → st.env j ≡ env j) → st.world ≡ traced x.world tr → c ≤ b →
-      Meets line n at most (exact z) st c r → Keeps x (Gives x left at base env) tr (b + factor) (answered line (exact z) s) r
+      Meets line n at most (scalars.exact z) st c r → Keeps x (Gives x left at base env) tr (b + factor) (answered line (exact z) s) r
   answer_keeps line z s st c r ln lb lm h kept w le m = exact_keeps line z (is_int z) s st c r refl ln lb lm h kept w le m
 
 -- the piece of an operator does what the operator says
 pub record Operator (x : Site) (line : ℕ) (calls : Calls) (op : ℤ → ℤ → ℤ) (piece : (left right n : ℕ) → List Op) (at : ℕ) : Type 0 where
   pub most : ℕ
   pub small : most ≤ factor
-  pub meets : (left right n : ℕ) (y z : ℤ) (st : CodeState) (c : ℕ) → is_int y ≡ true → is_int z ≡ true → HasFixed x.fixed n st → left < n → right < n → st.env left ≡ Some (word_of_int y) → st.env right ≡ Some (word_of_int z) → Meets line n (n + at) most (exact (op y z)) st c (run_list x.setting calls (piece left right n) st c)
+  pub meets : (left right n : ℕ) (y z : ℤ) (st : CodeState) (c : ℕ) → is_int y ≡ true → is_int z ≡ true → HasFixed x.fixed n st → left < n → right < n → st.env left ≡ Some (word_of_int y) → st.env right ≡ Some (word_of_int z) → Meets line n (n + at) most (scalars.exact (op y z)) st c (run_list x.setting calls (piece left right n) st c)
 
 -- and that of one whose right operand is a number
 pub record Shortcut (x : Site) (line : ℕ) (calls : Calls) (op : ℤ → ℤ → ℤ) (piece : (left number n : ℕ) → List Op) : Type 0 where
   pub most : ℕ
   pub small : most ≤ factor
-  pub meets : (left number n : ℕ) (y : ℤ) (st : CodeState) (c : ℕ) → is_int y ≡ true → number ≤ 2147483647 → HasFixed x.fixed n st → left < n → st.env left ≡ Some (word_of_int y) → Meets line n (n + 1) most (exact (op y (pos number))) st c (run_list x.setting calls (piece left number n) st c)
+  pub meets : (left number n : ℕ) (y : ℤ) (st : CodeState) (c : ℕ) → is_int y ≡ true → number ≤ 2147483647 → HasFixed x.fixed n st → left < n → st.env left ≡ Some (word_of_int y) → Meets line n (n + 1) most (scalars.exact (op y (pos number))) st c (run_list x.setting calls (piece left number n) st c)
 
 -- a step that does nothing but give a number, for a unit
 pub record IsNumber (m : Step Store Value) (number : ℕ) : Type 1 where

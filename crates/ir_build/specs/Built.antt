@@ -10,7 +10,7 @@ use Rattle.tu_token.specs.LexFaults.{value_after}
 use Rattle.tu_expr.specs.Views.{signed, multiplied}
 use Rattle.tu_expr.specs.Levels.{OnlyCompare, OnlySum, OnlyPrimary}
 use Rattle.tu_expr.specs.Forms.{NoMore, More, Compare, Sum, Term, Related, Added, Subtracted, Multiplied, NumberValue, PathValue, Brackets, Path}
-use Rattle.tu_value.specs.Comparisons.{comparison_of}
+use Rattle.ir_build.specs.Relations.{comparison_of}
 use Rattle.tu_tree_meaning.specs.Values.{Variable, variable_of}
 
 module _ (declared : List Variable) where

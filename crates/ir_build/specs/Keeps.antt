@@ -7,10 +7,10 @@ use Rattle.ir_form.specs.declared.plain.Width.TheVariants.{Word}
 use Rattle.ir_form.specs.Cells.{loaded, is_open_word}
 use Rattle.ir_form.specs.Place.{Setting}
 use Rattle.ir_form.specs.State.{State as CodeState, Env, How, Next, Throws, Over, Going as code_going, Run}
-use Rattle.tu_tree_meaning.specs.Operators.{is_int}
+use Rattle.tu_base.specs.Scalars.{is_int}
 use Rattle.tu_tree_meaning.specs.Steps.{Added, Outcome, Done, Raised, Going, State}
 use Rattle.tu_tree_meaning.specs.Store.{Store}
-use Rattle.tu_tree_meaning.specs.Values.{Value, Unset, Int, Truth, Variable}
+use Rattle.tu_tree_meaning.specs.Values.{Value, Unset, Int, Truth, Variable, int_in}
 use Rattle.tu_value.specs.Words.{word_of, word_of_int}
 use Rattle.tu_value.specs.Comparisons.{Comparison, compares}
 use Rattle.tu_value.specs.Meets.{HasFixed}
@@ -54,12 +54,16 @@ IsStored Unset = Unit {0}
 IsStored (Int z) = is_int z ≡ true
 IsStored (Truth b) = ⊥
 
+-- the word of what a variable holds
+abbrev pub stored_word : Value → ℕ
+stored_word v = word_of (int_in v)
+
 -- a variable's address is there, and the word of its value lies at it
 pub record Lies (x : Site) (s : Store) (st : CodeState) (n : Named) : Type 0 where
   pub below : n.at < x.low
   pub address : st.env n.at ≡ Some (word_at x.setting n.word)
   pub inside : n.word < x.setting.globals
-  pub stored : loaded Word st.cells (word_at x.setting n.word) ≡ Some (word_of (s.globals n.name))
+  pub stored : loaded Word st.cells (word_at x.setting n.word) ≡ Some (stored_word (s.globals n.name))
 
 abbrev pub AllLie : Site → Store → CodeState → List Named → Type 0
 AllLie x s st [] = Unit {0}

@@ -1,3 +1,4 @@
+pub mod Relations
 pub mod Keeps
 pub mod Built
 pub mod Code

@@ -2,7 +2,7 @@
 ghost use Rattle.std.specs.Prelude.{◌≡◌, ◌+◌, ◌*◌, ◌≤◌, IfOk, OnOk};
 ghost use Rattle.std.specs.Option.{option_map};
 ghost use Rattle.ir_code.specs.declared.code.Code.{Code};
-ghost use Rattle.tu_value.specs.Comparisons.{comparison_of};
+ghost use Rattle.ir_build.specs.Relations.{comparison_of};
 ghost use Rattle.ir_build.specs.Code.{test_compare, test_expr, where_tested};
 ghost use Rattle.ir_build.specs.Compared.{comparison, tested_code};
 ghost use Rattle.ir_build.specs.Tokens.{tokens_in};

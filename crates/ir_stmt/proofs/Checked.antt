@@ -18,7 +18,7 @@ use Rattle.tu_tree.specs.DeclarationViews.{started}
 use Rattle.tu_tree.specs.StatementViews.{block_part, elses, simple, widths}
 use Rattle.tu_check.specs.Built.{are_times, is_comparing, is_declared, unbuilt_path, unbuilt, unbuilt_sum, unbuilt_terms, unbuilt_term, unbuilt_factors, unbuilt_prefix, unbuilt_primary, unbuilt_comparison, unbuilt_condition, unbuilt_width, unbuilt_shown, unbuilt_shown_more, unbuilt_plain, unbuilt_statement, unbuilt_elsifs, unbuilt_else, unbuilt_block, unbuilt_parts, unbuilt_start, unbuilt_spec, unbuilt_names, unbuilt_var, unbuilt_item, unbuilt_items, unbuilt_program, declared_after, names_in, names_of, more_names, with_names}
 use Rattle.tu_check.specs.Limits.{HasSmallNumbers}
-use Rattle.tu_value.specs.Comparisons.{comparison_of}
+use Rattle.ir_build.specs.Relations.{comparison_of}
 use Rattle.tu_tree_meaning.specs.Interpreter.{more_names as more_variables, names_of as variables_of}
 use Rattle.ir_build.specs.Built.{is_built_path, is_built, is_built_sum, are_built_terms, is_built_term, are_built_factors, is_built_prefix, is_built_primary, is_tested, is_tested_compare}
 use Rattle.ir_stmt.specs.Built.{is_width_built, is_shown_built, are_shown_built, is_simple_built, is_statement_built, are_elsifs_built, is_otherwise_built, is_block_built, are_parts_built, are_new, with_names as with_variables, is_var_built, names_in as variables_in, is_item_built, declared_after as variables_after, are_items_built, is_program_built}

@@ -18,12 +18,11 @@ use Rattle.tu_tree_meaning.specs.Steps.{Added, Outcome, State, Step, pay, change
 use Rattle.tu_tree_meaning.specs.Store.{Store, by_copying, assign_root}
 use Rattle.tu_tree_meaning.specs.Values.{Unset, Variable, Global}
 use Rattle.tu_tree_meaning.specs.Interpreter.{declare_all}
-use Rattle.tu_value.specs.Words.{word_of}
 use Rattle.tu_value.specs.Pieces.{unset_code}
 use Rattle.tu_value.specs.Meets.{HasFixed, StoresWord}
 use Rattle.tu_value.proofs.Cells.{store_keeps}
 use Rattle.tu_value.proofs.Leaves.{unset_runs}
-use Rattle.ir_build.specs.Keeps.{factor, Named, Site, word_at, AllLie, Holds, Post, Keeps, variables_of}
+use Rattle.ir_build.specs.Keeps.{factor, Named, Site, word_at, stored_word, AllLie, Holds, Post, Keeps, variables_of}
 use Rattle.ir_build.proofs.Words.{keeps_is, keeps_more, keeps_paid, keeps_given, keeps_grouped, keeps_change}
 use Rattle.ir_stmt.specs.Code.{Declared, declare_code, declare_all as code_declare_all}
 use Rattle.ir_stmt.proofs.Stores.{AllBelow, IsOrdered, older, lie_after, stored_value}
@@ -107,7 +106,7 @@ declared_holds x left s st c c' n word y new below lt low le h =
           below = omega arith;
           address = set_same st.env n a;
           inside = lt;
-          stored = k.here ∙ ap (λ b. Some (word_of (if b then Unset else s.store.globals y))) (sym ((bytes_eq-Decides y y).1 refl));
+          stored = k.here ∙ ap (λ b. Some (stored_word (if b then Unset else s.store.globals y))) (sym ((bytes_eq-Decides y y).1 refl));
         },
         lie_more x z (assign_root s.store (Global y) Unset) (record st { cells = with_word st.cells a 0 }) (declared_state x st n word) refl refl (omega arith) (λ j l. set_below st.env n a j (omega arith)) x.names
             (lie_after x s.store st it Unset k x.names (older it x.names (new_below y word n x.names new below)) h.variables),
@@ -165,7 +164,7 @@ module _ (x : Site) (calls : Calls) (depth : ℕ) where
       let st1 = set st n a in
       let r = run_list x.setting calls (unset_code x.fixed n) st1 (c + 7) in
       let fixed : HasFixed x.fixed n st1 = record { zero_below = h.fixed.zero_below; zero_is = set_below st.env n a x.fixed.zero h.fixed.zero_below ∙ h.fixed.zero_is; top_below = h.fixed.top_below; top_is = set_below st.env n a x.fixed.top h.fixed.top_below ∙ h.fixed.top_is } in
-      let u : StoresWord a (word_of Unset) st1 (c + 7) r = unset_runs x.setting calls x.fixed n n a st1 (c + 7) fixed (set_same st.env n a) (h.writable word lt) in
+      let u : StoresWord a (stored_word Unset) st1 (c + 7) r = unset_runs x.setting calls x.fixed n n a st1 (c + 7) fixed (set_same st.env n a) (h.writable word lt) in
       let s1 : State Store = record s { store = assign_root s.store (Global y) Unset } in
       keeps_grouped (pay 2) (λ _. change (λ s. assign_root s (Global y) Unset) >> D) (λ _. k) s _ (keeps_paid 2 s ((change (λ s. assign_root s (Global y) Unset) >> D) >> k) _
       (keeps_grouped (change (λ s. assign_root s (Global y) Unset)) (λ _. D) (λ _. k) s _ (keeps_change (λ s. assign_root s (Global y) Unset) (D >> k) s _

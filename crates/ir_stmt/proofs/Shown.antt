@@ -23,7 +23,7 @@ use Rattle.tu_token.specs.declared.class.Class.TheVariants.{SignComma, SignRange
 use Rattle.tu_token.specs.Rules.{r-shown, ◌⨟◌, many, maybe, t as lexeme}
 use Rattle.tu_expr.specs.Parts.{Part}
 use Rattle.tu_expr.specs.Forms.{Present, Absent, More, NoMore, Behind, Listed}
-use Rattle.tu_tree_meaning.specs.Operators.{is_int}
+use Rattle.tu_base.specs.Scalars.{is_int}
 use Rattle.tu_tree_meaning.specs.Steps.{State, Step, give, raise, pay, happen, ◌>>=◌, ◌>>◌}
 use Rattle.tu_tree_meaning.specs.Store.{Store, by_copying}
 use Rattle.tu_tree_meaning.specs.Values.{Value, Int, Variable}

@@ -23,16 +23,16 @@ use Rattle.tu_token.specs.Syntax.{Of}
 use Rattle.tu_expr.specs.Forms.{NoMore, Path}
 use Rattle.tu_tree.specs.Forms.{Assign, Simple, Exit, ExitWhen}
 use Rattle.tu_tree_meaning.specs.Interpreter.{Flow, Next, Exits, evaluate, condition, execute_simple, locate}
-use Rattle.tu_tree_meaning.specs.Operators.{is_int}
+use Rattle.tu_base.specs.Scalars.{is_int}
 use Rattle.tu_tree_meaning.specs.Steps.{State, Step, give, pay, change, ◌>>=◌, ◌>>◌}
 use Rattle.tu_tree_meaning.specs.Store.{Store, by_copying, assign_root}
 use Rattle.tu_tree_meaning.specs.Values.{Value, Int, Variable, variable_of, Place, place_of, Global}
 use Rattle.tu_value.specs.Comparisons.{Comparison, compares}
-use Rattle.tu_value.specs.Words.{word_of, word_of_int}
+use Rattle.tu_value.specs.Words.{word_of_int}
 use Rattle.tu_value.specs.Pieces.{store_code}
 use Rattle.tu_value.specs.Meets.{StoresWord}
 use Rattle.tu_value.proofs.Leaves.{store_runs}
-use Rattle.ir_build.specs.Keeps.{Named, Site, word_at, IsStored, Holds, Keeps, Gives, Tells}
+use Rattle.ir_build.specs.Keeps.{Named, Site, word_at, stored_word, IsStored, Holds, Keeps, Gives, Tells}
 use Rattle.ir_build.specs.Code.{Tested, where_tested, code_expr, test_expr}
 use Rattle.ir_build.specs.Built.{is_built, is_tested}
 use Rattle.ir_build.proofs.Words.{passes_next, keeps_flow, keeps_is, keeps_more, keeps_paid, keeps_give, keeps_given, keeps_grouped, keeps_change}
@@ -75,11 +75,11 @@ module _ (x : Site) (calls : Calls) (depth : ℕ) (ordered : IsOrdered x.names) 
       let l = lies_of x s.store st y f.it x.names f.is g.holds.variables in
       let r = run_list x.setting calls (store_code f.it.at value) st c in
       let q : StoresWord (word_at x.setting f.it.word) (word_of_int g.int) st c r = store_runs x.setting calls f.it.at value (word_at x.setting f.it.word) (word_of_int g.int) st c l.address g.result (g.holds.writable f.it.word l.inside) in
-      let same : word_of_int g.int ≡ word_of (Int z) = ap word_of (sym g.is) in
+      let same : word_of_int g.int ≡ stored_word (Int z) = ap stored_word (sym g.is) in
       keeps_change (λ s. assign_root s (Global y) (Int z)) (give Next) s r (keeps_give Next _ r (record {
         way = q.how;
         holds = subst (λ (su : CodeState). Holds x left (record s { store = assign_root s.store (Global y) (Int z) }) su r.cost) (sym (q.state ∙ ap (λ v. record st { cells = with_word st.cells (word_at x.setting f.it.word) v }) same))
-            (subst (λ n. Holds x left (record s { store = assign_root s.store (Global n) (Int z) }) (record st { cells = with_word st.cells (word_at x.setting f.it.word) (word_of (Int z)) }) r.cost) (sym f.name)
+            (subst (λ n. Holds x left (record s { store = assign_root s.store (Global n) (Int z) }) (record st { cells = with_word st.cells (word_at x.setting f.it.word) (stored_word (Int z)) }) r.cost) (sym f.name)
             (stored_holds x left s st c r.cost y f.it (Int z) ordered f.is (small_int z g.int g.is g.small) q.costs.begun g.holds));
       }) (ap (λ (su : CodeState). su.world) q.state ∙ w) (let u = q.costs.bound in omega arith))
     where

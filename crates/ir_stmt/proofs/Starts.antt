@@ -17,7 +17,7 @@ use Rattle.tu_token.specs.Rules.{r-expr}
 use Rattle.tu_token.specs.Syntax.{Of}
 use Rattle.tu_tree_meaning.specs.Steps.{State, Step, give, ◌>>=◌, ◌>>◌}
 use Rattle.tu_tree_meaning.specs.Store.{Store, by_copying, assign_root}
-use Rattle.tu_tree_meaning.specs.Operators.{is_int}
+use Rattle.tu_base.specs.Scalars.{is_int}
 use Rattle.tu_tree_meaning.specs.Values.{Value, Int, Variable, Global}
 use Rattle.tu_tree_meaning.specs.Interpreter.{Flow, Next, evaluate, declare_all, assign_all}
 use Rattle.tu_value.specs.Words.{word_of_int}

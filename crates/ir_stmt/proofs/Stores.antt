@@ -8,12 +8,12 @@ use Rattle.ir_form.specs.Cells.{Cells, loaded, with_word}
 use Rattle.ir_form.specs.State.{State as CodeState}
 use Rattle.tu_tree_meaning.specs.Steps.{State}
 use Rattle.tu_tree_meaning.specs.Store.{Store, assign_root}
-use Rattle.tu_tree_meaning.specs.Values.{Value, Unset, Int, Truth, Variable, Global}
-use Rattle.tu_value.specs.Words.{word_of, IsSmall}
+use Rattle.tu_tree_meaning.specs.Values.{Value, Unset, Int, Truth, Variable, Global, int_in}
+use Rattle.tu_value.specs.Words.{IsSmall}
 use Rattle.tu_value.specs.Meets.{HoldsWord}
 use Rattle.tu_value.proofs.Cells.{store_keeps}
 use Rattle.tu_value.proofs.Leaves.{words_fit}
-use Rattle.ir_build.specs.Keeps.{Named, Site, word_at, IsStored, Lies, AllLie, Holds}
+use Rattle.ir_build.specs.Keeps.{Named, Site, word_at, stored_word, IsStored, Lies, AllLie, Holds}
 use Rattle.ir_build.specs.Code.{named}
 use Rattle.ir_build.proofs.States.{some_inj, none_is_some, lies_of}
 
@@ -66,21 +66,21 @@ elsewhere : (x : Site) (cells new : Cells) (w a b : ℕ) → HoldsWord (word_at 
 elsewhere x cells new w a b h (inl lt) = h.before (word_at x.setting b) (omega (arith, lt))
 elsewhere x cells new w a b h (inr lt) = h.behind (word_at x.setting b) (omega (arith, lt))
 
-lies_after : (x : Site) (s : Store) (st : CodeState) (it n : Named) (v : Value) → HoldsWord (word_at x.setting it.word) (word_of v) st.cells (with_word st.cells (word_at x.setting it.word) (word_of v)) → Related it n → Lies x s st n → Lies x (assign_root s (Global it.name) v) (record st { cells = with_word st.cells (word_at x.setting it.word) (word_of v) }) n
+lies_after : (x : Site) (s : Store) (st : CodeState) (it n : Named) (v : Value) → HoldsWord (word_at x.setting it.word) (stored_word v) st.cells (with_word st.cells (word_at x.setting it.word) (stored_word v)) → Related it n → Lies x s st n → Lies x (assign_root s (Global it.name) v) (record st { cells = with_word st.cells (word_at x.setting it.word) (stored_word v) }) n
 lies_after x s st it n v h (inl r) l = record {
   below = l.below;
   address = l.address;
   inside = l.inside;
-  stored = ap (λ z. loaded Word (with_word st.cells (word_at x.setting it.word) (word_of v)) (word_at x.setting z)) r.0 ∙ h.here ∙ ap (λ b. Some (word_of (if b then v else s.globals n.name))) (sym ((bytes_eq-Decides n.name it.name).1 r.1));
+  stored = ap (λ z. loaded Word (with_word st.cells (word_at x.setting it.word) (stored_word v)) (word_at x.setting z)) r.0 ∙ h.here ∙ ap (λ b. Some (stored_word (if b then v else s.globals n.name))) (sym ((bytes_eq-Decides n.name it.name).1 r.1));
 }
 lies_after x s st it n v h (inr r) l = record {
   below = l.below;
   address = l.address;
   inside = l.inside;
-  stored = elsewhere x st.cells _ (word_of v) it.word n.word h r.0 ∙ l.stored ∙ ap (λ b. Some (word_of (if b then v else s.globals n.name))) (sym (apart_names n.name it.name r.1));
+  stored = elsewhere x st.cells _ (stored_word v) it.word n.word h r.0 ∙ l.stored ∙ ap (λ b. Some (stored_word (if b then v else s.globals n.name))) (sym (apart_names n.name it.name r.1));
 }
 
-pub lie_after : (x : Site) (s : Store) (st : CodeState) (it : Named) (v : Value) → HoldsWord (word_at x.setting it.word) (word_of v) st.cells (with_word st.cells (word_at x.setting it.word) (word_of v)) → (names : List Named) → AllRelated it names → AllLie x s st names → AllLie x (assign_root s (Global it.name) v) (record st { cells = with_word st.cells (word_at x.setting it.word) (word_of v) }) names
+pub lie_after : (x : Site) (s : Store) (st : CodeState) (it : Named) (v : Value) → HoldsWord (word_at x.setting it.word) (stored_word v) st.cells (with_word st.cells (word_at x.setting it.word) (stored_word v)) → (names : List Named) → AllRelated it names → AllLie x s st names → AllLie x (assign_root s (Global it.name) v) (record st { cells = with_word st.cells (word_at x.setting it.word) (stored_word v) }) names
 lie_after x s st it v h [] r l = tt
 lie_after x s st it v h (n ∷ names) r l = (lies_after x s st it n v h r.0 l.0, lie_after x s st it v h names r.1 l.1)
 
@@ -88,17 +88,17 @@ pub stored_value : (v w : Value) (b : Bool) → IsStored v → IsStored w → Is
 stored_value v w true h g = h
 stored_value v w false h g = g
 
-small_stored : (v : Value) → IsStored v → IsSmall v
+small_stored : (v : Value) → IsStored v → IsSmall (int_in v)
 small_stored Unset h = tt
 small_stored (Int z) h = h
 small_stored (Truth b) h = absurd h
 
 -- a variable that is declared holds another value
 pub stored_holds : (x : Site) (left : ℕ) (s : State Store) (st : CodeState) (c c' : ℕ) (y : Variable) (it : Named) (v : Value) → IsOrdered x.names → named y x.names ≡ Some it → IsStored v → c ≤ c' → Holds x left s st c →
-    Holds x left (record s { store = assign_root s.store (Global it.name) v }) (record st { cells = with_word st.cells (word_at x.setting it.word) (word_of v) }) c'
+    Holds x left (record s { store = assign_root s.store (Global it.name) v }) (record st { cells = with_word st.cells (word_at x.setting it.word) (stored_word v) }) c'
 stored_holds x left s st c c' y it v o e i le h =
     let l = lies_of x s.store st y it x.names e h.variables in
-    let k = store_keeps st.cells (word_at x.setting it.word) (word_of v) (h.writable it.word l.inside) (words_fit v (small_stored v i)) in
+    let k = store_keeps st.cells (word_at x.setting it.word) (stored_word v) (h.writable it.word l.inside) (words_fit (int_in v) (small_stored v i)) in
     record {
       fixed = record { zero_below = h.fixed.zero_below; zero_is = h.fixed.zero_is; top_below = h.fixed.top_below; top_is = h.fixed.top_is };
       variables = lie_after x s.store st it v k x.names (related_of y it x.names e o) h.variables;

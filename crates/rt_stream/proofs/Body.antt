@@ -18,7 +18,7 @@ use Rattle.ir_form.specs.Meaning.{run, run_list}
 use Rattle.ir_code.specs.Pieces.{constant, frame, compute, store}
 use Rattle.ir_code.proofs.Running.{runs_in_order}
 use Rattle.ir_code.proofs.Steps.{set, Goes, AllGo, none, ◌▸◌, constant_goes, frame_goes}
-use Rattle.tu_tree_meaning.specs.Operators.{is_int}
+use Rattle.tu_base.specs.Scalars.{is_int}
 use Rattle.tu_value.specs.Meets.{HasFixed, HasInt}
 use Rattle.tu_value.specs.Pieces.{fixed_from, number_code}
 use Rattle.tu_value.specs.Words.{word_of_int}

@@ -14,7 +14,7 @@ use Rattle.ir_form.specs.Plain.{Calls}
 use Rattle.ir_form.specs.Meaning.{run_list, ended_run}
 use Rattle.ir_form.specs.Units.{Head, no_values, opened, enters, returned_run, body_of, head_of, calls_to, calls_within}
 use Rattle.ir_code.proofs.Steps.{AllGo, none, ◌▸◌, constant_goes, frame_goes}
-use Rattle.tu_tree_meaning.specs.Operators.{is_int}
+use Rattle.tu_base.specs.Scalars.{is_int}
 use Rattle.tu_value.specs.Words.{word_of_int}
 use Rattle.rt_stream.specs.Laws.{padded, frame_of, HasRoom, Puts, put_int_rounds, put_int_most, put_line_most, PutIntComputes, PutIntIsCheap, PutLineComputes}
 use Rattle.rt_stream.specs.Routines.{put_int_ops, put_int_routine, put_line_ops, put_line_routine}

@@ -12,7 +12,7 @@ use Rattle.ir_form.specs.Units.{calls_within}
 use Rattle.ir_form.specs.Valid.{IsValidRoutine}
 use Rattle.ir_form.specs.Values.{marks_of}
 use Rattle.ir_form.specs.Weight.{routine_weight}
-use Rattle.tu_tree_meaning.specs.Operators.{is_int}
+use Rattle.tu_base.specs.Scalars.{is_int}
 use Rattle.tu_value.specs.Words.{word_of_int}
 use Rattle.rt_stream.specs.Routines.{put_int_routine, put_line_routine}
 

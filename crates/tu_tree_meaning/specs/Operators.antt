@@ -1,8 +1,9 @@
 -- What operators give.
-use Rattle.std.specs.Prelude.{Bool, not, ◌&&◌, ℤ, ◌+ℤ◌, ◌-ℤ◌, ◌*ℤ◌, unsigned_abs, int_le, int_lt, nat_le, if◌then◌else◌}
-use Rattle.tu_base.specs.declared.limits.TheConstants.{MOST_INT}
+use Rattle.std.specs.Prelude.{Bool, ℤ, ◌+ℤ◌, ◌-ℤ◌, ◌*ℤ◌, if◌then◌else◌}
 use Rattle.tu_base.specs.declared.kind.Kind.{Kind}
 use Rattle.tu_base.specs.declared.kind.Kind.TheVariants.{Overflow}
+use Rattle.tu_base.specs.declared.operator.Relation.TheVariants as base
+use Rattle.tu_base.specs.Scalars.{is_int, compared}
 use Rattle.tu_token.specs.Rules.{r-relation}
 use Rattle.tu_token.specs.Syntax.{Of}
 use Rattle.tu_expr.specs.Forms.{Equal, NotEqual, Less, Greater, LessOrEqual, GreaterOrEqual}
@@ -13,10 +14,6 @@ pub data Answer : Type 0 where
   Gives : Value → Answer
   Raises : Kind → Answer
   NoRule : Answer
-
--- an int lies from -2147483647 to 2147483647
-abbrev pub is_int : ℤ → Bool
-is_int z = nat_le (unsigned_abs z) MOST_INT
 
 -- the exact result, or Overflow
 abbrev pub exact : ℤ → Answer
@@ -39,16 +36,12 @@ times x y = NoRule
 abbrev pub truth : Bool → Answer
 truth b = Gives (Truth b)
 
--- the same int
-abbrev pub are_equal : ℤ → ℤ → Bool
-are_equal a b = int_le a b && int_le b a
-
 -- what a relation says of two ints; `in` and `not in` have no meaning yet
 abbrev pub relate : Of r-relation → Value → Value → Answer
-relate (Equal m _) (Int a) (Int b) = truth (are_equal a b)
-relate (NotEqual m _) (Int a) (Int b) = truth (not (are_equal a b))
-relate (Less m _) (Int a) (Int b) = truth (int_lt a b)
-relate (Greater m _) (Int a) (Int b) = truth (int_lt b a)
-relate (LessOrEqual m _) (Int a) (Int b) = truth (int_le a b)
-relate (GreaterOrEqual m _) (Int a) (Int b) = truth (int_le b a)
+relate (Equal m _) (Int a) (Int b) = truth (compared base.Equal a b)
+relate (NotEqual m _) (Int a) (Int b) = truth (compared base.NotEqual a b)
+relate (Less m _) (Int a) (Int b) = truth (compared base.Less a b)
+relate (Greater m _) (Int a) (Int b) = truth (compared base.Greater a b)
+relate (LessOrEqual m _) (Int a) (Int b) = truth (compared base.LessOrEqual a b)
+relate (GreaterOrEqual m _) (Int a) (Int b) = truth (compared base.GreaterOrEqual a b)
 relate relation x y = NoRule

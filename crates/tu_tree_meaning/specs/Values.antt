@@ -1,5 +1,5 @@
 -- Values, and the places where they stand.
-use Rattle.std.specs.Prelude.{ℕ, Bool, List, ℤ}
+use Rattle.std.specs.Prelude.{ℕ, Bool, List, ℤ, Option, Some, None}
 use Rattle.tu_token.specs.declared.class.Class.TheVariants.{Name}
 use Rattle.tu_token.specs.Rules.{t}
 use Rattle.tu_expr.specs.Parts.{Part, text_of}
@@ -10,6 +10,12 @@ pub data Value : Type 0 where
   Unset : Value
   Int : ℤ → Value
   Truth : Bool → Value
+
+-- what is read as an int; all else is unset there
+abbrev pub int_in : Value → Option ℤ
+int_in Unset = None
+int_in (Int z) = Some z
+int_in (Truth b) = None
 
 -- a variable, by the bytes of its name
 abbrev pub Variable : Type 0

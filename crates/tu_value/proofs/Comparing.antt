@@ -1,9 +1,9 @@
 -- The order of ints is that of their words.
-use Rattle.std.proofs.Common.{◌≡◌, ℕ, suc, ◌+◌, ◌-◌, ◌≤◌, true, ◌&&◌, refl, arith, ap, ap₂, ◌∙◌, sym}
+use Rattle.std.proofs.Common.{◌≡◌, ℕ, suc, ◌+◌, ◌-◌, ◌≤◌, true, ◌&&◌, ◌||◌, refl, arith, ap, ap₂, ◌∙◌, sym}
 use Rattle.std.specs.Prelude.{◌==◌, not, nat_lt, nat_le, ℤ, pos, negsuc, int_lt, int_le}
 use Rattle.std.proofs.lemmas.Bool.Decides.{nat_tests}
-use Rattle.tu_expr.specs.Forms.{Equal, NotEqual, Less, Greater, LessOrEqual, GreaterOrEqual, In, NotIn}
-use Rattle.tu_tree_meaning.specs.Operators.{is_int, are_equal, truth}
+use Rattle.tu_base.specs.declared.operator.Relation.TheVariants.{Equal, NotEqual, Less, Greater, LessOrEqual, GreaterOrEqual}
+use Rattle.tu_base.specs.Scalars.{is_int, are_equal}
 use Rattle.tu_value.specs.Words.{word_of_int}
 use Rattle.tu_value.specs.Laws.{RelationsHold}
 use Rattle.tu_value.proofs.Numbers.{small_of}
@@ -39,12 +39,16 @@ both_ways v w = grind (arith, nat_tests)
 equal_is : (x y : ℤ) → is_int x ≡ true → is_int y ≡ true → are_equal x y ≡ (word_of_int x == word_of_int y)
 equal_is x y e f = ap₂ (λ s t. s && t) (le_is x y e f) (le_is y x f e) ∙ both_ways (word_of_int x) (word_of_int y)
 
+at_most : (v w : ℕ) → (nat_lt v w || (v == w)) ≡ not (nat_lt w v)
+at_most v w = grind (arith, nat_tests)
+
+equal_back : (v w : ℕ) → (nat_lt w v || (v == w)) ≡ not (nat_lt v w)
+equal_back v w = grind (arith, nat_tests)
+
 pub relations_hold : RelationsHold
-relations_hold (Equal m _) x y e f = ap truth (equal_is x y e f)
-relations_hold (NotEqual m _) x y e f = ap (λ b. truth (not b)) (equal_is x y e f)
-relations_hold (Less m _) x y e f = ap truth (less_is x y e f)
-relations_hold (Greater m _) x y e f = ap truth (less_is y x f e)
-relations_hold (LessOrEqual m _) x y e f = ap truth (le_is x y e f)
-relations_hold (GreaterOrEqual m _) x y e f = ap truth (le_is y x f e)
-relations_hold (In m _) x y e f = refl
-relations_hold (NotIn m _ _) x y e f = refl
+relations_hold Equal x y e f = equal_is x y e f
+relations_hold NotEqual x y e f = ap not (equal_is x y e f)
+relations_hold Less x y e f = less_is x y e f
+relations_hold Greater x y e f = less_is y x f e
+relations_hold LessOrEqual x y e f = ap₂ (λ s t. s || t) (less_is x y e f) (equal_is x y e f) ∙ at_most (word_of_int x) (word_of_int y)
+relations_hold GreaterOrEqual x y e f = ap₂ (λ s t. s || t) (less_is y x f e) (equal_is x y e f) ∙ equal_back (word_of_int x) (word_of_int y)

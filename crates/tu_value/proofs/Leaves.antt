@@ -1,5 +1,5 @@
 -- What the pieces of code do that read and store values.
-use Rattle.std.proofs.Common.{◌≡◌, ℕ, suc, ◌+◌, ◌-◌, ◌%◌, ◌≤◌, true, false, [], refl, arith, Some, None, ap, ◌∙◌, sym, subst}
+use Rattle.std.proofs.Common.{◌≡◌, ℕ, suc, ◌+◌, ◌-◌, ◌%◌, ◌≤◌, true, false, [], refl, arith, Option, Some, None, ap, ◌∙◌, sym, subst}
 use Rattle.std.specs.Prelude.{if◌then◌else◌, ℤ, pos, negsuc}
 use Rattle.std.specs.Int.{w32, cast_unsigned}
 use Rattle.tu_base.specs.declared.kind.Kind.TheVariants as kind
@@ -12,15 +12,14 @@ use Rattle.ir_form.specs.Plain.{Calls}
 use Rattle.ir_form.specs.State.{State, next}
 use Rattle.ir_form.specs.declared.plain.Width.TheVariants.{Word}
 use Rattle.ir_code.proofs.Steps.{set, set_same, set_below, AllGo, none, stops, ◌▸◌, ◌▹◌, constant_goes, compute_goes, load_goes, store_goes, check_goes, check_stops}
-use Rattle.tu_tree_meaning.specs.Values.{Value, Unset, Int, Truth}
-use Rattle.tu_tree_meaning.specs.Operators.{is_int}
+use Rattle.tu_base.specs.Scalars.{is_int}
 use Rattle.tu_value.specs.Words.{word_of, word_of_int, IsSmall}
 use Rattle.tu_value.specs.Pieces.{fetch_code, fixed_code, literal_code, store_code}
-use Rattle.tu_value.specs.Meets.{GivesValue, RaisesAt, Meets, HasFixed, StoresWord, fetched}
+use Rattle.tu_value.specs.Meets.{GivesInt, RaisesAt, Meets, HasFixed, StoresWord, fetched}
 use Rattle.tu_value.specs.Laws.{FetchMeets, FixedAreGiven, GivesFixed, LiteralMeets, NumberIsGiven, StoreRuns, UnsetRuns, WordsFit, fetch_most}
 use Rattle.tu_value.specs.declared.pieces.Fixed.{Fixed}
 use Rattle.tu_value.proofs.Numbers.{small_of, small_word}
-use Rattle.tu_value.proofs.Outcomes.{unchanged, also, past, gives_value, raises_at}
+use Rattle.tu_value.proofs.Outcomes.{unchanged, also, past, gives_int, raises_at}
 use Rattle.tu_value.proofs.Tests.{at_most_test, is_set}
 
 module _ (g : Setting) (calls : Calls) (k : Fixed) where
@@ -29,16 +28,14 @@ module _ (g : Setting) (calls : Calls) (k : Fixed) where
       (load_goes n Word at e m ▹ stops [] (check_stops NotEqual n k.zero kind.Unset line (set_same st.env n 0) (set_below st.env n 0 k.zero h.zero_below ∙ h.zero_is) refl))
       (also n n 0 (omega arith) (unchanged n st)) (omega arith) (omega arith)
 
-  fetch_set : (v : Value) (line at n a : ℕ) (st : State) (c : ℕ) → HasFixed k n st → st.env at ≡ Some a → loaded Word st.cells a ≡ Some (word_of v) → IsSmall v → 1 ≤ word_of v → GivesValue n n fetch_most v st c (run_list g calls (fetch_code k line at n) st c)
-  fetch_set v line at n a st c h e m small le = gives_value v
-      (load_goes n Word at e m ▸ check_goes NotEqual n k.zero kind.Unset line (set_same st.env n (word_of v)) (set_below st.env n (word_of v) k.zero h.zero_below ∙ h.zero_is) (is_set (word_of v) le) ▸ none)
-      (also n n (word_of v) (omega arith) (unchanged n st)) (set_same st.env n (word_of v)) small (omega arith) (omega arith)
+  fetch_set : (z : ℤ) (line at n a : ℕ) (st : State) (c : ℕ) → HasFixed k n st → st.env at ≡ Some a → loaded Word st.cells a ≡ Some (word_of_int z) → is_int z ≡ true → GivesInt n n fetch_most z st c (run_list g calls (fetch_code k line at n) st c)
+  fetch_set z line at n a st c h e m small = gives_int z
+      (load_goes n Word at e m ▸ check_goes NotEqual n k.zero kind.Unset line (set_same st.env n (word_of_int z)) (set_below st.env n (word_of_int z) k.zero h.zero_below ∙ h.zero_is) (is_set (word_of_int z) (small_word z small).0) ▸ none)
+      (also n n (word_of_int z) (omega arith) (unchanged n st)) (set_same st.env n (word_of_int z)) small (omega arith) (omega arith)
 
-  fetches : (v : Value) (line at n a : ℕ) (st : State) (c : ℕ) → HasFixed k n st → st.env at ≡ Some a → loaded Word st.cells a ≡ Some (word_of v) → IsSmall v → Meets line n n fetch_most (fetched v) st c (run_list g calls (fetch_code k line at n) st c)
-  fetches Unset line at n a st c h e m small = fetch_unset line at n a st c h e m
-  fetches (Int z) line at n a st c h e m small = fetch_set (Int z) line at n a st c h e m small (small_word z small).0
-  fetches (Truth true) line at n a st c h e m small = fetch_set (Truth true) line at n a st c h e m small (omega arith)
-  fetches (Truth false) line at n a st c h e m small = fetch_set (Truth false) line at n a st c h e m small (omega arith)
+  fetches : (v : Option ℤ) (line at n a : ℕ) (st : State) (c : ℕ) → HasFixed k n st → st.env at ≡ Some a → loaded Word st.cells a ≡ Some (word_of v) → IsSmall v → Meets line n n fetch_most (fetched v) st c (run_list g calls (fetch_code k line at n) st c)
+  fetches None line at n a st c h e m small = fetch_unset line at n a st c h e m
+  fetches (Some z) line at n a st c h e m small = fetch_set z line at n a st c h e m small
 
 pub fetch_meets : FetchMeets
 fetch_meets g calls k v line at n a st c h e m small = fetches g calls k v line at n a st c h e m small
@@ -56,14 +53,12 @@ fixed_are_given g calls n st c =
     })
 
 pub literal_meets : LiteralMeets
-literal_meets g calls number line n st c le = gives_value {g = g} {calls = calls} {ops = literal_code number n} {at = n} (Int (pos number)) (constant_goes n (2147483648 + number) ▸ none)
+literal_meets g calls number line n st c le = gives_int {g = g} {calls = calls} {ops = literal_code number n} {at = n} (pos number) (constant_goes n (2147483648 + number) ▸ none)
     (also n n (2147483648 + number) (omega arith) (unchanged n st)) (set_same st.env n (2147483648 + number)) (at_most_test number 2147483647 le) (omega arith) (omega arith)
 
 pub words_fit : WordsFit
-words_fit Unset small = omega arith
-words_fit (Int z) small = (small_word z small).1
-words_fit (Truth true) small = omega arith
-words_fit (Truth false) small = omega arith
+words_fit None small = omega arith
+words_fit (Some z) small = (small_word z small).1
 
 pub store_runs : StoreRuns
 store_runs g calls at from a w st c e f open_word = runs (store_goes Word at from e f (ap (λ b. if b then Some (with_word st.cells a w) else None) open_word) ▸ none)

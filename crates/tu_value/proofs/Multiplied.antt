@@ -12,15 +12,14 @@ use Rattle.ir_form.specs.State.{State}
 use Rattle.ir_form.specs.declared.op.Op.{Op}
 use Rattle.ir_code.specs.Pieces.{constant, compute, raise_unless}
 use Rattle.ir_code.proofs.Steps.{set, set_same, AllGo, AllStop, none, stops, ◌▸◌, ◌▹◌, constant_goes, compute_goes, check_goes, check_stops}
-use Rattle.tu_tree_meaning.specs.Values.{Int}
-use Rattle.tu_tree_meaning.specs.Operators.{is_int, exact}
+use Rattle.tu_base.specs.Scalars.{is_int, exact}
 use Rattle.tu_value.specs.Pieces.{product_code}
-use Rattle.tu_value.specs.Meets.{OnlyFrom, GivesValue, RaisesAt, Meets, HasFixed, HasInt}
+use Rattle.tu_value.specs.Meets.{OnlyFrom, GivesInt, RaisesAt, Meets, HasFixed, HasInt}
 use Rattle.tu_value.specs.Laws.{ProductMeets, product_most}
 use Rattle.tu_value.specs.declared.pieces.Fixed.{Fixed}
 use Rattle.tu_value.proofs.Numbers.{Tested}
 use Rattle.tu_value.proofs.Products.{sign_of, signed_word, is_signed, product_is, product_tested}
-use Rattle.tu_value.proofs.Outcomes.{unchanged, also, past, held, gives_value, raises_at, exact_meets, on_test}
+use Rattle.tu_value.proofs.Outcomes.{unchanged, also, past, held, gives_int, raises_at, exact_meets, on_test}
 
 -- the states after each value, from the signed numbers of the operands
 abbrev lower : (a b : ℕ) → ℕ
@@ -130,8 +129,8 @@ module _ (g : Setting) (calls : Calls) (k : Fixed) (x y : ℤ) (line left right 
       let p = product_is x y a b (wide a) (wide b) l.small m.small (is_signed x l.small) (is_signed y m.small) in
       product_tested (x *ℤ y) (wide a * wide b % 18446744073709551616) (lower a b) p.wide_is p.low_is p.bounded
 
-  gives_result : is_int (x *ℤ y) ≡ true → GivesValue n (n + 6) product_most (Int (x *ℤ y)) st c (run_list g calls (product_code k line left right n) st c)
-  gives_result i = let a = signed_word x in let b = signed_word y in let f = tested.fits i in gives_value (Int (x *ℤ y))
+  gives_result : is_int (x *ℤ y) ≡ true → GivesInt n (n + 6) product_most (x *ℤ y) st c (run_list g calls (product_code k line left right n) st c)
+  gives_result i = let a = signed_word x in let b = signed_word y in let f = tested.fits i in gives_int (x *ℤ y)
       (goes (check_goes Equal (n + 3) (n + 5) kind.Overflow line (upper_in_six st n a b) (sign_in_six st n a b) f.0
       ▸ compute_goes (n + 6) Add (n + 2) k.top (lower_in_six st n a b) top_in_six
       ▸ check_goes NotEqual (n + 6) k.zero kind.Overflow line (result_in_seven st n a b) zero_in_seven f.1 ▸ none))

@@ -3,7 +3,7 @@ use Rattle.std.proofs.Common.{◌≡◌, ℕ, zero, suc, ◌+◌, ◌-◌, ◌%�
 use Rattle.std.specs.Prelude.{◌==◌, not, nat_le, cond, ltb, ℤ, pos, negsuc, ◌+ℤ◌, ◌-ℤ◌, neg_ℤ}
 use Rattle.std.proofs.lemmas.Bool.Decides.{nat_tests}
 use Rattle.rv_isa.specs.Arithmetic.{one_if}
-use Rattle.tu_tree_meaning.specs.Operators.{is_int}
+use Rattle.tu_base.specs.Scalars.{is_int}
 use Rattle.tu_value.specs.Words.{word_of_int}
 use Rattle.tu_value.proofs.Tests.{at_most_test, below_test, not_below_test, same_below}
 

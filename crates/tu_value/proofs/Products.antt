@@ -3,7 +3,7 @@ use Rattle.std.proofs.Common.{◌≡◌, ℕ, zero, suc, ◌+◌, ◌-◌, ◌*�
 use Rattle.std.specs.Prelude.{◌==◌, not, if◌then◌else◌, ℤ, pos, negsuc, ◌*ℤ◌, neg_ℤ, unsigned_abs}
 use Rattle.std.proofs.lemmas.Nat.{mul-le}
 use Rattle.rv_isa.specs.Arithmetic.{wide}
-use Rattle.tu_tree_meaning.specs.Operators.{is_int}
+use Rattle.tu_base.specs.Scalars.{is_int}
 use Rattle.tu_value.specs.Words.{word_of_int}
 use Rattle.tu_value.proofs.Numbers.{Tested, small_of, not_small}
 use Rattle.tu_value.proofs.Tests.{below_test, not_below_test, equal_test, test_equal, is_set, is_unset, below_or_not}

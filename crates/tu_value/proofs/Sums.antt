@@ -13,15 +13,14 @@ use Rattle.ir_form.specs.State.{State}
 use Rattle.ir_form.specs.declared.op.Op.{Op}
 use Rattle.ir_code.specs.Pieces.{compute, raise_unless}
 use Rattle.ir_code.proofs.Steps.{set, set_same, AllGo, AllStop, none, stops, ◌▸◌, ◌▹◌, constant_goes, compute_goes, check_goes, check_stops}
-use Rattle.tu_tree_meaning.specs.Values.{Int}
-use Rattle.tu_tree_meaning.specs.Operators.{is_int, exact}
+use Rattle.tu_base.specs.Scalars.{is_int, exact}
 use Rattle.tu_value.specs.Words.{word_of_int}
 use Rattle.tu_value.specs.Pieces.{less_code, more_code}
-use Rattle.tu_value.specs.Meets.{OnlyFrom, GivesValue, RaisesAt, Meets, HasFixed}
+use Rattle.tu_value.specs.Meets.{OnlyFrom, GivesInt, RaisesAt, Meets, HasFixed}
 use Rattle.tu_value.specs.Laws.{DifferenceMeets, LessMeets, MoreMeets, SumMeets, sum_most, more_most}
 use Rattle.tu_value.specs.declared.pieces.Fixed.{Fixed}
 use Rattle.tu_value.proofs.Numbers.{Tested, sum_tested, difference_tested, more_tested, less_tested}
-use Rattle.tu_value.proofs.Outcomes.{unchanged, also, past, held, gives_value, raises_at, exact_meets, on_test}
+use Rattle.tu_value.proofs.Outcomes.{unchanged, also, past, held, gives_int, raises_at, exact_meets, on_test}
 
 -- a result as a word, from the result less 2^31
 abbrev raised_word : ℕ → ℕ
@@ -91,8 +90,8 @@ module _ (g : Setting) (calls : Calls) (k : Fixed) (op : RegisterOp) (p q line l
   zero_is : (four_set st n (register_value op v w) a b w).env k.zero ≡ Some 0
   zero_is = held k.zero (only_four n (register_value op v w) a b w st) o.fixed.zero_below o.fixed.zero_is
 
-  gives_result : (z : ℤ) → Tested z (raised_word (register_value op v w)) (one_if (nat_lt a b) == one_if (nat_lt w 2147483648)) (not (raised_word (register_value op v w) == 0)) → is_int z ≡ true → GivesValue n (n + 1) sum_most (Int z) st c (run_list g calls (tested_code k op p q line left right n) st c)
-  gives_result z t i = let f = t.fits i in gives_value (Int z)
+  gives_result : (z : ℤ) → Tested z (raised_word (register_value op v w)) (one_if (nat_lt a b) == one_if (nat_lt w 2147483648)) (not (raised_word (register_value op v w) == 0)) → is_int z ≡ true → GivesInt n (n + 1) sum_most z st c (run_list g calls (tested_code k op p q line left right n) st c)
+  gives_result z t i = let f = t.fits i in gives_int z
       (goes (check_goes Equal (n + 2) (n + 3) kind.Overflow line first_is second_is f.0 ▸ check_goes NotEqual (n + 1) k.zero kind.Overflow line result_is zero_is f.1 ▸ none))
       (only_four n (register_value op v w) a b w st) (result_is ∙ ap (λ x. Some x) f.2) i (omega arith) (omega arith)
 
@@ -134,8 +133,8 @@ only_counted n number s st = also n (n + 1) s (omega arith) (also n n number (om
 pub more_meets : MoreMeets
 more_meets g calls x line left number n st c l le = exact_meets line n (n + 1) more_most (x +ℤ pos number) st c (run_list g calls (more_code line left number n) st c) gives stop
   where
-    gives : is_int (x +ℤ pos number) ≡ true → GivesValue n (n + 1) more_most (Int (x +ℤ pos number)) st c (run_list g calls (more_code line left number n) st c)
-    gives i = let w = word_of_int x in let s = (w + number) % 4294967296 in let f = (more_tested x number l.small le).fits i in gives_value (Int (x +ℤ pos number))
+    gives : is_int (x +ℤ pos number) ≡ true → GivesInt n (n + 1) more_most (x +ℤ pos number) st c (run_list g calls (more_code line left number n) st c)
+    gives i = let w = word_of_int x in let s = (w + number) % 4294967296 in let f = (more_tested x number l.small le).fits i in gives_int (x +ℤ pos number)
         (constant_goes n number ▸ compute_goes (n + 1) Add left n (past st n number left l.below l.is) (set_same st.env n number)
         ▸ check_goes GreaterOrEqualUnsigned (n + 1) left kind.Overflow line (set_same (set st n number).env (n + 1) s) (held left (only_counted n number s st) l.below l.is) f.0 ▸ none)
         (only_counted n number s st) (set_same (set st n number).env (n + 1) s ∙ ap (λ x. Some x) f.1) i (omega arith) (omega arith)
@@ -149,8 +148,8 @@ more_meets g calls x line left number n st c l le = exact_meets line n (n + 1) m
 pub less_meets : LessMeets
 less_meets g calls x line left number n st c l le = exact_meets line n (n + 1) more_most (x -ℤ pos number) st c (run_list g calls (less_code line left number n) st c) gives stop
   where
-    gives : is_int (x -ℤ pos number) ≡ true → GivesValue n (n + 1) more_most (Int (x -ℤ pos number)) st c (run_list g calls (less_code line left number n) st c)
-    gives i = let w = word_of_int x in let s = (w + (4294967296 - number)) % 4294967296 in let f = (less_tested x number l.small le).fits i in gives_value (Int (x -ℤ pos number))
+    gives : is_int (x -ℤ pos number) ≡ true → GivesInt n (n + 1) more_most (x -ℤ pos number) st c (run_list g calls (less_code line left number n) st c)
+    gives i = let w = word_of_int x in let s = (w + (4294967296 - number)) % 4294967296 in let f = (less_tested x number l.small le).fits i in gives_int (x -ℤ pos number)
         (constant_goes n number ▸ compute_goes (n + 1) Sub left n (past st n number left l.below l.is) (set_same st.env n number)
         ▸ check_goes LessUnsigned n left kind.Overflow line (past (set st n number) (n + 1) s n (omega arith) (set_same st.env n number)) (held left (only_counted n number s st) l.below l.is) f.0 ▸ none)
         (only_counted n number s st) (set_same (set st n number).env (n + 1) s ∙ ap (λ x. Some x) f.1) i (omega arith) (omega arith)

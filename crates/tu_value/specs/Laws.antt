@@ -1,22 +1,20 @@
 -- What the pieces of code do, and what relations say on words.
-use Rattle.std.specs.Prelude.{◌≡◌, ℕ, ◌+◌, ◌<◌, ◌≤◌, true, Some, ℤ, pos, ◌+ℤ◌, ◌-ℤ◌, ◌*ℤ◌}
+use Rattle.std.specs.Prelude.{◌≡◌, ℕ, ◌+◌, ◌<◌, ◌≤◌, true, Option, Some, None, ℤ, pos, ◌+ℤ◌, ◌-ℤ◌, ◌*ℤ◌}
 use Rattle.std.specs.Int.{w32, cast_unsigned}
 use Rattle.tu_base.specs.declared.limits.TheConstants.{MOST_INT}
+use Rattle.tu_base.specs.declared.operator.Relation.{Relation}
+use Rattle.tu_base.specs.Scalars.{Gives, exact, is_int, compared}
 use Rattle.ir_form.specs.Cells.{Cells, is_open_word, loaded, with_word}
 use Rattle.ir_form.specs.Meaning.{run_list}
 use Rattle.ir_form.specs.Place.{Setting}
 use Rattle.ir_form.specs.Plain.{Calls}
 use Rattle.ir_form.specs.State.{State, Next, Run, next, with_value}
 use Rattle.ir_form.specs.declared.plain.Width.TheVariants.{Word}
-use Rattle.tu_token.specs.Rules.{r-relation}
-use Rattle.tu_token.specs.Syntax.{Of}
-use Rattle.tu_tree_meaning.specs.Values.{Value, Unset, Int}
-use Rattle.tu_tree_meaning.specs.Operators.{Gives, exact, is_int, relate}
 use Rattle.tu_value.specs.declared.pieces.Fixed.{Fixed}
 use Rattle.tu_value.specs.Words.{word_of, word_of_int, IsSmall}
 use Rattle.tu_value.specs.Pieces.{difference_code, fetch_code, fixed_code, fixed_from, less_code, literal_code, more_code, number_code, product_code, store_code, sum_code, unset_code}
 use Rattle.tu_value.specs.Meets.{OnlyFrom, Costs, Meets, HasFixed, HasInt, StoresWord, HoldsWord, fetched}
-use Rattle.tu_value.specs.Comparisons.{comparison_of, compared}
+use Rattle.tu_value.specs.Comparisons.{comparison_of, compares}
 
 -- what reading a variable costs at most, a sum or a difference, a product, and a sum or a difference with a number: an exception that they raise
 -- is the dearest
@@ -43,21 +41,21 @@ abbrev pub FixedAreGiven : Type 0
 FixedAreGiven = (g : Setting) (calls : Calls) (n : ℕ) (st : State) (c : ℕ) → GivesFixed n st c (run_list g calls (fixed_code n) st c)
 
 abbrev pub LiteralMeets : Type 0
-LiteralMeets = (g : Setting) (calls : Calls) (number line n : ℕ) (st : State) (c : ℕ) → number ≤ MOST_INT → Meets line n n 5 (Gives (Int (pos number))) st c (run_list g calls (literal_code number n) st c)
+LiteralMeets = (g : Setting) (calls : Calls) (number line n : ℕ) (st : State) (c : ℕ) → number ≤ MOST_INT → Meets line n n 5 (Gives (pos number) 0) st c (run_list g calls (literal_code number n) st c)
 
--- the word of a value is one of 32 bits
+-- the word of a scalar is one of 32 bits
 abbrev pub WordsFit : Type 0
-WordsFit = (v : Value) → IsSmall v → word_of v < 4294967296
+WordsFit = (v : Option ℤ) → IsSmall v → word_of v < 4294967296
 
 abbrev pub FetchMeets : Type 0
-FetchMeets = (g : Setting) (calls : Calls) (k : Fixed) (v : Value) (line at n a : ℕ) (st : State) (c : ℕ) → HasFixed k n st → st.env at ≡ Some a → loaded Word st.cells a ≡ Some (word_of v) → IsSmall v → Meets line n n fetch_most (fetched v) st c (run_list g calls (fetch_code k line at n) st c)
+FetchMeets = (g : Setting) (calls : Calls) (k : Fixed) (v : Option ℤ) (line at n a : ℕ) (st : State) (c : ℕ) → HasFixed k n st → st.env at ≡ Some a → loaded Word st.cells a ≡ Some (word_of v) → IsSmall v → Meets line n n fetch_most (fetched v) st c (run_list g calls (fetch_code k line at n) st c)
 
 abbrev pub StoreRuns : Type 0
 StoreRuns = (g : Setting) (calls : Calls) (at from a w : ℕ) (st : State) (c : ℕ) → st.env at ≡ Some a → st.env from ≡ Some w → is_open_word st.cells a ≡ true → StoresWord a w st c (run_list g calls (store_code at from) st c)
 
 -- the word of a variable that is not set
 abbrev pub UnsetRuns : Type 0
-UnsetRuns = (g : Setting) (calls : Calls) (k : Fixed) (at n a : ℕ) (st : State) (c : ℕ) → HasFixed k n st → st.env at ≡ Some a → is_open_word st.cells a ≡ true → StoresWord a (word_of Unset) st c (run_list g calls (unset_code k at) st c)
+UnsetRuns = (g : Setting) (calls : Calls) (k : Fixed) (at n a : ℕ) (st : State) (c : ℕ) → HasFixed k n st → st.env at ≡ Some a → is_open_word st.cells a ≡ true → StoresWord a (word_of None) st c (run_list g calls (unset_code k at) st c)
 
 abbrev pub StoreKeeps : Type 0
 StoreKeeps = (cells : Cells) (a w : ℕ) → is_open_word cells a ≡ true → w < 4294967296 → HoldsWord a w cells (with_word cells a w)
@@ -83,4 +81,4 @@ LessMeets = (g : Setting) (calls : Calls) (x : ℤ) (line left number n : ℕ) (
 
 -- what a relation says of two ints is what its comparison says of their words
 abbrev pub RelationsHold : Type 0
-RelationsHold = (relation : Of r-relation) (x y : ℤ) → is_int x ≡ true → is_int y ≡ true → relate relation (Int x) (Int y) ≡ compared (comparison_of relation) (word_of_int x) (word_of_int y)
+RelationsHold = (relation : Relation) (x y : ℤ) → is_int x ≡ true → is_int y ≡ true → compared relation x y ≡ compares (comparison_of relation) (word_of_int x) (word_of_int y)

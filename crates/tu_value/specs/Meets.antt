@@ -1,14 +1,13 @@
 -- What operations come to that work out an answer of the meaning.
-use Rattle.std.specs.Prelude.{◌≡◌, ℕ, ◌+◌, ◌<◌, ◌≤◌, Some, true, ℤ}
+use Rattle.std.specs.Prelude.{◌≡◌, ℕ, ◌+◌, ◌<◌, ◌≤◌, Option, Some, None, true, ℤ}
 use Rattle.tu_base.specs.declared.kind.Kind.{Kind}
-use Rattle.tu_base.specs.declared.kind.Kind.TheVariants.{Unset as is_unset}
+use Rattle.tu_base.specs.declared.kind.Kind.TheVariants.{Unset}
 use Rattle.tu_base.specs.Kind.{kind_number}
+use Rattle.tu_base.specs.Scalars.{Answer, Gives, Raises, is_int}
 use Rattle.ir_form.specs.Cells.{Cells, is_open_word, loaded, with_word}
 use Rattle.ir_form.specs.State.{State, Next, Throws, Run}
 use Rattle.ir_form.specs.declared.plain.Width.TheVariants.{Word}
-use Rattle.tu_tree_meaning.specs.Values.{Value, Unset}
-use Rattle.tu_tree_meaning.specs.Operators.{Answer, Gives, Raises, NoRule, is_int}
-use Rattle.tu_value.specs.Words.{word_of, word_of_int, IsSmall}
+use Rattle.tu_value.specs.Words.{word_of_int}
 use Rattle.tu_value.specs.declared.pieces.Fixed.{Fixed}
 
 -- the values from n on may have changed, and nothing else
@@ -21,12 +20,12 @@ pub record Costs (most c : ℕ) (r : Run) : Type 0 where
   pub begun : c ≤ r.cost
   pub bound : r.cost ≤ c + most
 
--- the value at is the word of v
-pub record GivesValue (n at most : ℕ) (v : Value) (st : State) (c : ℕ) (r : Run) : Type 0 where
+-- the value at is the word of an int
+pub record GivesInt (n at most : ℕ) (z : ℤ) (st : State) (c : ℕ) (r : Run) : Type 0 where
   pub how : r.how ≡ Next
   pub only : OnlyFrom n st r.state
-  pub result : r.state.env at ≡ Some (word_of v)
-  pub small : IsSmall v
+  pub result : r.state.env at ≡ Some (word_of_int z)
+  pub small : is_int z ≡ true
   pub costs : Costs most c r
 
 pub record RaisesAt (line n most : ℕ) (kind : Kind) (st : State) (c : ℕ) (r : Run) : Type 0 where
@@ -34,11 +33,11 @@ pub record RaisesAt (line n most : ℕ) (kind : Kind) (st : State) (c : ℕ) (r 
   pub only : OnlyFrom n st r.state
   pub costs : Costs most c r
 
--- a run that begins in a state at a cost gives the value, or raises the exception at a line; where there is no rule nothing is said
-abbrev pub Meets : (line n at most : ℕ) → Answer → State → ℕ → Run → Type 0
-Meets line n at most (Gives v) st c r = GivesValue n at most v st c r
-Meets line n at most (Raises kind) st c r = RaisesAt line n most kind st c r
-Meets line n at most NoRule st c r = Unit {0}
+-- A run that begins in a state at a cost gives the int, or raises the exception at a line. What the answer costs beside its node is paid by
+-- whoever pays the node.
+abbrev pub Meets : (line n at most : ℕ) → Answer ℤ → State → ℕ → Run → Type 0
+Meets line n at most (Gives z units) st c r = GivesInt n at most z st c r
+Meets line n at most (Raises kind units) st c r = RaisesAt line n most kind st c r
 
 -- the two values that each routine begins with
 pub record HasFixed (k : Fixed) (n : ℕ) (st : State) : Type 0 where
@@ -54,9 +53,9 @@ pub record HasInt (z : ℤ) (value n : ℕ) (st : State) : Type 0 where
   pub is : st.env value ≡ Some (word_of_int z)
 
 -- what is fetched is to be set
-abbrev pub fetched : Value → Answer
-fetched Unset = Raises is_unset
-fetched v = Gives v
+abbrev pub fetched : Option ℤ → Answer ℤ
+fetched None = Raises Unset 0
+fetched (Some z) = Gives z 0
 
 -- the run stores a word at an address, and does nothing else
 pub record StoresWord (a w : ℕ) (st : State) (c : ℕ) (r : Run) : Type 0 where
