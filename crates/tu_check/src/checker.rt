@@ -10,6 +10,7 @@ use std::marker::Model;
 use tu_base::{Bytes, MOST_SOURCE_BYTES};
 use tu_lex::lex;
 use tu_parse::parse;
+use tu_scope::resolve;
 use tu_tree::Tree;
 
 /// The tree of a source that is accepted.
@@ -62,6 +63,7 @@ pub fn check(alloc: Global, source: &Bytes) -> Result<Checked, CheckError>
     }
     let tokens = lex(alloc, source)?;
     let tree = parse(alloc, &tokens)?;
+    resolve(alloc, &tree)?;
     match unbuilt_program(alloc, &tree)? {
         Some(line) => Err(CheckError::Refused(Refusal::Types(TypeError::NotBuilt(line)))),
         None => Ok(Checked { tree }),

@@ -1,11 +1,12 @@
 // Why a source is not checked.
 ghost use Rattle.std.specs.Prelude.{◌≡◌};
-ghost use Rattle.tu_check.specs.Errors.{lexical_error, syntax_error};
+ghost use Rattle.tu_check.specs.Errors.{error_of_names, lexical_error, syntax_error};
 ghost use Rattle.tu_check.specs.declared.error.CheckError.TheVariants as check_error;
 
 use crate::Refusal;
 use thiserror::Error;
 use tu_base::Memory;
+use tu_scope::ScopeError;
 use tu_token::{LexError, ParseError};
 
 /// Why a source is not checked.
@@ -37,6 +38,17 @@ impl From<ParseError> for CheckError {
         match error {
             ParseError::Unexpected { line, .. } => CheckError::Refused(Refusal::Syntax(line)),
             ParseError::Memory => CheckError::Memory,
+        }
+    }
+}
+
+impl From<ScopeError> for CheckError {
+    ghost from_gives = { λ error given. given ≡ error_of_names error };
+
+    fn from(error: ScopeError) -> Self {
+        match error {
+            ScopeError::Memory => CheckError::Memory,
+            error => CheckError::Refused(Refusal::Scope(error)),
         }
     }
 }

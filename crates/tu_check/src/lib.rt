@@ -14,4 +14,4 @@ pub use built::unbuilt_program;
 pub use checker::{Checked, check};
 pub use error::CheckError;
 pub use laws::{accepted_has_limits, one_answer, some_answer};
-pub use refusal::{AliasError, EffectError, Refusal, ScopeError, TypeError};
+pub use refusal::{AliasError, EffectError, Refusal, TypeError};

@@ -1,46 +1,11 @@
-// Why a source is refused, by the groups of faults in their order. The faults of lexemes and tokens are those of the lexer and
-// the parser; those of the later groups stand here until the checks that find them do.
+// Why a source is refused, by the groups of faults in their order. The faults of lexemes, tokens and names are those of the lexer,
+// the parser and the check of scopes; those of the later groups stand here until the checks that find them do.
 ghost use Rattle.std.specs.Prelude.{◌≡◌};
 
 use thiserror::Error;
 use tu_base::{Line, Memory};
+use tu_scope::ScopeError;
 use tu_token::LexError;
-
-/// Why a name has no meaning.
-#[derive(Clone, Copy, PartialEq, Eq, Debug, Error)]
-pub enum ScopeError {
-    /// A used name is declared nowhere visible.
-    #[error("line {0}: a name that is declared nowhere visible")]
-    Unknown(Line),
-    /// A used name is hidden by a missing import alone.
-    #[error("line {0}: a name that is not imported here")]
-    NotImported(Line),
-    /// A module declares the name and does not export it.
-    #[error("line {0}: a name that its module does not export")]
-    NotExported(Line),
-    /// A name is declared again in the same scope, record, union or enumeration.
-    #[error("line {0}: a name that is declared twice")]
-    Twice(Line),
-    /// A `forward` has no body.
-    #[error("line {0}: a forward subprogram without a body")]
-    BodyMissing(Line),
-    /// The name after `end` is not that of the construct that it ends.
-    #[error("line {0}: an end with the name of another construct")]
-    WrongEnd(Line),
-    /// Want of memory.
-    #[error("out of memory")]
-    Memory,
-}
-
-impl From<Memory> for ScopeError {
-    ghost use Rattle.tu_check.specs.declared.refusal.ScopeError.TheVariants.{Memory as scope_memory};
-
-    ghost from_gives = { λ _ e. e ≡ scope_memory };
-
-    fn from(_: Memory) -> Self {
-        ScopeError::Memory
-    }
-}
 
 /// Why an expression or a declaration has no type.
 #[derive(Clone, Copy, PartialEq, Eq, Debug, Error)]

@@ -21,6 +21,8 @@ mod programs;
 #[cfg(test)]
 mod rows;
 #[cfg(test)]
+mod scopes;
+#[cfg(test)]
 mod sources;
 #[cfg(test)]
 mod units;

@@ -8,6 +8,7 @@ use tu_base::{Bytes, Event, Kind, Line, Memory, Numbers, Words};
 use tu_check::{Refusal, TypeError};
 use tu_outside::{Cabinet, CabinetError, MemoryCabinet, MemoryConsole, MemoryNotes};
 use tu_run::{Report, Status, turing};
+use tu_scope::ScopeError;
 use tu_token::LexError;
 
 /// The devices of a command.
@@ -157,6 +158,7 @@ impl Outside {
 pub enum End {
     Stopped(Kind, Line),
     Syntax(Line),
+    Scope(ScopeError),
     NotBuilt(Line),
     BadImage(ImageError),
     Fault(FaultKind, u32),
@@ -193,11 +195,25 @@ pub const TOO_DEEP: End = End::Other(
     "line 1: Lexical TooDeep",
 );
 
+// The kind of a fault of names, and its line.
+fn told(error: ScopeError) -> (Text, Line) {
+    match error {
+        ScopeError::Unknown(line) => ("Unknown", line),
+        ScopeError::NotImported(line) => ("NotImported", line),
+        ScopeError::NotExported(line) => ("NotExported", line),
+        ScopeError::Twice(line) => ("Twice", line),
+        ScopeError::BodyMissing(line) => ("BodyMissing", line),
+        ScopeError::WrongEnd(line) => ("WrongEnd", line),
+        ScopeError::Memory => ("out of memory", 0),
+    }
+}
+
 impl End {
     pub fn status(self) -> Status {
         match self {
             End::Stopped(kind, line) => Status::Stopped { kind, line },
             End::Syntax(line) => Status::Refused(Refusal::Syntax(line)),
+            End::Scope(error) => Status::Refused(Refusal::Scope(error)),
             End::NotBuilt(line) => Status::Refused(Refusal::Types(TypeError::NotBuilt(line))),
             End::BadImage(error) => Status::BadImage(error),
             End::Fault(kind, pc) => Status::MachineFault { kind, pc },
@@ -209,6 +225,10 @@ impl End {
         match self {
             End::Stopped(kind, line) => format!(in alloc; "line {line}: {kind:?}"),
             End::Syntax(line) => format!(in alloc; "line {line}: Syntax Unexpected"),
+            End::Scope(error) => {
+                let (kind, line) = told(error);
+                format!(in alloc; "line {line}: Scope {kind}")
+            }
             End::NotBuilt(line) => format!(in alloc; "line {line}: Types NotBuilt"),
             End::BadImage(error) => format!(in alloc; "bad image: {error:?}"),
             End::Fault(kind, pc) => format!(in alloc; "machine: {kind:?} at 0x{pc:08x}"),

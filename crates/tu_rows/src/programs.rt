@@ -1,7 +1,7 @@
 // Sources. What is accepted is checked, run, and built to an image that runs as the source does.
 
 use crate::lexemes::repeated;
-use crate::outside::End::{NotBuilt, Stopped, Syntax};
+use crate::outside::End::{NotBuilt, Scope, Stopped, Syntax};
 use crate::outside::{
     AMPLE, Answer, BAD_NUMBER, ENDED, End, OPEN_TEXT, Outside, SIZE, TOO_DEEP, Truth,
 };
@@ -11,6 +11,7 @@ use std::test::Fail;
 use tu_base::Kind::{Overflow, Range, Unset};
 use tu_base::{Bytes, Memory};
 use tu_run::Status;
+use tu_scope::ScopeError::{Twice, Unknown};
 
 // A source, what it writes, and how it ends.
 type Row = (Text, Text, End);
@@ -100,8 +101,8 @@ const PROGRAMS: &[Row] = &[
     (SECOND_ROUND, "2147483647\n", Stopped(Overflow, 3)),
 ];
 
-// Whether `check` ends so of a source, and leaves its file.
-fn is_checked(alloc: Global, source: &[u8], end: End) -> Truth {
+/// Whether `check` ends so of a source, and leaves its file.
+pub fn is_checked(alloc: Global, source: &[u8], end: End) -> Truth {
     let mut outside = Outside::make(alloc, source, AMPLE)?;
     let answered = outside.answers(alloc, "check a.t", &(end, Some(0), ""))?;
     Ok(answered && outside.has_file(alloc, "a.t", Some(source))?)
@@ -150,8 +151,8 @@ fn sources_do_what_they_tell(rt: HostRuntime) {
     rows_hold(&rt, rt.alloc(), PROGRAMS, does_so);
 }
 
-// A source, and why it is refused.
-type Refused = (Text, End);
+/// A source, and why it is refused.
+pub type Refused = (Text, End);
 
 const REFUSED: &[Refused] = &[
     ("put 2147483648", BAD_NUMBER),
@@ -165,14 +166,14 @@ const REFUSED: &[Refused] = &[
     ("put 1 +\n", Syntax(2)),
     ("put true\nput put", Syntax(2)),
     ("module M end M", NotBuilt(1)),
-    ("put1", NotBuilt(1)),
+    ("put1", Scope(Unknown(1))),
     ("put -1", NotBuilt(1)),
     ("put 1 *\n(2 div 3)\nput true", NotBuilt(2)),
-    ("put 1 +\nx * 2\nreturn", NotBuilt(2)),
-    ("var x := x", NotBuilt(1)),
-    ("var x := 1\nvar y, x := 2", NotBuilt(2)),
-    ("var x,\nx := 2", NotBuilt(2)),
-    ("x := 1\nvar x := 2", NotBuilt(1)),
+    ("put 1 +\nx * 2\nreturn", Scope(Unknown(2))),
+    ("var x := x", Scope(Unknown(1))),
+    ("var x := 1\nvar y, x := 2", Scope(Twice(2))),
+    ("var x,\nx := 2", Scope(Twice(2))),
+    ("x := 1\nvar x := 2", Scope(Unknown(1))),
     ("put 1\nexit", NotBuilt(2)),
     (
         "loop\nif 1 = 1 then exit end if\nend loop\nexit when 1 = 1",
@@ -184,7 +185,7 @@ const REFUSED: &[Refused] = &[
     ("var b : boolean", NotBuilt(1)),
     ("loop invariant 1 = 1\nexit end loop", NotBuilt(1)),
     ("if 1 = 1 then\nvar x := 1\nend if", NotBuilt(2)),
-    ("put 1 +\n2 +\ny\ny := 1", NotBuilt(3)),
+    ("put 1 +\n2 +\ny\ny := 1", Scope(Unknown(3))),
     ("put 1\nquit", NotBuilt(2)),
     ("quit : 2", NotBuilt(1)),
     (
@@ -209,7 +210,8 @@ fn is_refused(alloc: Global, source: &[u8], end: End) -> Truth {
     Ok(checked && is_run(alloc, source, &(end, Some(0), ""))?)
 }
 
-fn is_refused_so(alloc: Global, row: &Refused) -> Truth {
+/// Whether a row holds.
+pub fn is_refused_so(alloc: Global, row: &Refused) -> Truth {
     is_refused(alloc, row.0.as_bytes(), row.1)
 }
 

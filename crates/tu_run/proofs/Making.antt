@@ -1,7 +1,8 @@
 -- What a file comes to.
 use Rattle.std.proofs.Common.{◌≡◌, ◌≢◌, ◌⊎◌, ℕ, ◌<◌, true, false, cond, ◌||◌, List, length, nat_le, inl, inr, Result, Ok, Err, refl, ap, sym, ◌∙◌, subst, arith}
 use Rattle.std.proofs.lemmas.Bool.{leb-false}
-use Rattle.std.specs.Prelude.{Option, Some, None}
+use Rattle.std.specs.Prelude.{Option, Some, None, reverse}
+use Rattle.std.specs.Option.{option_map}
 use Rattle.std.specs.FinMap as map
 use Rattle.tu_base.specs.Files.{Files}
 use Rattle.tu_outside.specs.Files.{IsFetched, fetched}
@@ -17,6 +18,16 @@ use Rattle.tu_check.specs.declared.refusal.Refusal.TheVariants.{Size as refused_
 use Rattle.tu_check.specs.declared.refusal.TypeError.TheVariants.{NotBuilt}
 use Rattle.tu_token.specs.LexFaults.{FaultKind, BadByte, BadNumber, OpenText, LongText, OpenComment, LongName, TooMany, TooDeep, error_of}
 use Rattle.tu_token.specs.declared.fault.LexError.TheVariants.{Memory as lexical_memory}
+use Rattle.tu_scope_rules.specs.declared.fault.Fault.{Fault}
+use Rattle.tu_scope_rules.specs.declared.fault.FaultKind.{FaultKind as NameFaultKind}
+use Rattle.tu_scope_rules.specs.declared.fault.FaultKind.TheVariants.{Unknown, NotImported, NotExported, Twice, BodyMissing, WrongEnd}
+use Rattle.tu_scope_rules.specs.declared.error.ScopeError.{ScopeError}
+use Rattle.tu_scope_rules.specs.declared.error.ScopeError.TheVariants.{Memory as scope_memory}
+use Rattle.tu_scope_rules.specs.declared.event.Context.TheVariants.{Elsewhere}
+use Rattle.tu_scope_rules.specs.Answers.{error_of as error_of_fault, error_with}
+use Rattle.tu_scope_rules.specs.Faults.{faults_of}
+use Rattle.tu_scope_rules.specs.Least.{least}
+use Rattle.tu_scope_parts.specs.Walk.{events}
 use Rattle.tu_token.specs.Rules.{r-program}
 use Rattle.tu_token.specs.Syntax.{Of}
 use Rattle.tu_check.specs.declared.error.CheckError.{CheckError}
@@ -139,12 +150,25 @@ lexical_reason LongName line e = cc e
 lexical_reason TooMany line e = cc e
 lexical_reason TooDeep line e = cc e
 
+-- no fault of names is want of memory
+fault_reason : (kind : NameFaultKind) (line : ℕ) → error_with kind line ≢ scope_memory
+fault_reason Unknown line e = cc e
+fault_reason NotImported line e = cc e
+fault_reason NotExported line e = cc e
+fault_reason Twice line e = cc e
+fault_reason BodyMissing line e = cc e
+fault_reason WrongEnd line e = cc e
+
+names_reason : (fault : Option Fault) (error : ScopeError) → option_map error_of_fault fault ≡ Some error → error ≢ scope_memory
+names_reason None error e m = absurd (cc e)
+names_reason (Some fault) error e m = let same : error_of_fault fault ≡ error = cc e in fault_reason fault.kind fault.line (same ∙ m)
+
 -- a source is refused for what it is
 refused_reason : (source : List ℕ) (refusal : Refusal) → IsRefused source refusal → HasReason refusal
 refused_reason source refused_size r = tt
 refused_reason source (Lexical error) r = λ e. lexical_reason r.1.kind _ (sym r.1.error_is ∙ e)
 refused_reason source (Syntax line) r = tt
-refused_reason source (Scope error) r = absurd r
+refused_reason source (Scope error) r = names_reason (least (faults_of (reverse (events Elsewhere r.tree)))) error r.found
 refused_reason source (Types (NotBuilt line)) r = λ e. cc e
 refused_reason source (Types other) r = absurd r
 refused_reason source (Effects error) r = absurd r

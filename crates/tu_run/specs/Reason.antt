@@ -2,8 +2,8 @@
 use Rattle.std.specs.Prelude.{◌≢◌, ℕ, List, ◌++◌, codes, decimal}
 use Rattle.tu_token.specs.declared.fault.LexError.{LexError}
 use Rattle.tu_token.specs.declared.fault.LexError.TheVariants.{BadByte, BadNumber, OpenText, LongText, OpenComment, LongName, TooMany, TooDeep, Memory as lexical_memory}
-use Rattle.tu_check.specs.declared.refusal.ScopeError.{ScopeError}
-use Rattle.tu_check.specs.declared.refusal.ScopeError.TheVariants.{Unknown, NotImported, NotExported, Twice, BodyMissing, WrongEnd, Memory as scope_memory}
+use Rattle.tu_scope_rules.specs.declared.error.ScopeError.{ScopeError}
+use Rattle.tu_scope_rules.specs.declared.error.ScopeError.TheVariants.{Unknown, NotImported, NotExported, Twice, BodyMissing, WrongEnd, Memory as scope_memory}
 use Rattle.tu_check.specs.declared.refusal.TypeError.{TypeError}
 use Rattle.tu_check.specs.declared.refusal.TypeError.TheVariants.{Misplaced, Mismatch, NotConstant, OutOfRange, NotVariable, BadCount, TooLarge, NotBuilt, Memory as types_memory}
 use Rattle.tu_check.specs.declared.refusal.EffectError.{EffectError}

@@ -4,7 +4,8 @@ ghost use Rattle.tu_run.specs.Reason.{lexical_text, scope_text, types_text, effe
 
 use crate::note::{ROOM, put, put_line};
 use arrayvec::ArrayString;
-use tu_check::{AliasError, EffectError, Refusal, ScopeError, TypeError};
+use tu_check::{AliasError, EffectError, Refusal, TypeError};
+use tu_scope::ScopeError;
 use tu_token::LexError;
 
 // Want of memory is no refusal, so this is never seen.

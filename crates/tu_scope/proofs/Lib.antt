@@ -1,0 +1,4 @@
+-- of this crate alone
+mod Arms
+mod Forms
+mod Rows

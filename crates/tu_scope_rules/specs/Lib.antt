@@ -1,0 +1,13 @@
+pub mod Names
+pub mod Namespaces
+pub mod Entries
+pub mod Table
+pub mod Search
+pub mod Views
+pub mod Faults
+pub mod Uses
+pub mod Least
+pub mod Seen
+pub mod Passes
+pub mod Answers
+pub mod Laws
