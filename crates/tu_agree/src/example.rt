@@ -210,7 +210,7 @@ mod tests {
     }
 
     #[test]
-    fn chains_make_code(rt: HostRuntime) -> Result<(), Fail> {
+    fn chains_make_words(rt: HostRuntime) -> Result<(), Fail> {
         let alloc = rt.alloc();
         let text = vec![in alloc; 97, 98, 99]?;
         assert_eq!(rt;
@@ -221,6 +221,12 @@ mod tests {
             make_words(alloc, &text)?.as_slice(),
             [97, 98, 99].as_slice()
         );
+        Ok(())
+    }
+
+    #[test]
+    fn images_are_made(rt: HostRuntime) -> Result<(), Fail> {
+        let alloc = rt.alloc();
         let image = make_image(alloc)?.bytes(alloc)?;
         assert_eq!(rt; image.len(), 24);
         assert_eq!(rt; &image.as_slice()[20..], [0x73, 0, 0, 0].as_slice());

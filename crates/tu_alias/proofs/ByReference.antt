@@ -4,14 +4,18 @@ use Rattle.std.specs.Prelude.{ℤ, slice_get, is_some}
 use Rattle.std.specs.List.{Contains}
 use mathlib.Core.Path.{fun_ext}
 use Rattle.tu_base.specs.Values.{Number, Content, part}
-use Rattle.tu_core.specs.Core.{At, Variable, Global, Local, Path, Call, Calls, Actuals, NoActual, Named, Nothing, Routine, Program}
-use Rattle.tu_core.specs.Places.{has_some, local_name}
-use Rattle.tu_core.specs.WellFormed.{names_of}
+use Rattle.tu_core.specs.Core.{Path, Call, Calls, Actuals, NoActual, Named, Routine, Program}
+use Rattle.tu_core.specs.declared.names.At.{At}
+use Rattle.tu_core.specs.declared.names.Variable.{Variable}
+use Rattle.tu_core.specs.declared.names.Variable.TheVariants.{Global, Local}
+use Rattle.tu_core.specs.declared.names.CallResult.TheVariants.{Nothing}
+use Rattle.tu_core.specs.Places.{names_of, has_some, local_name}
 use Rattle.tu_core.specs.Walk.{pairs_of}
 use Rattle.tu_core.specs.Acts.{Subject, AVariable, ACollection, subject_of, Act, routine_acts}
 use Rattle.tu_core.specs.Effects.{called_by, CallsOne, Writes}
 use Rattle.tu_core.specs.Rules.{KeepsTheRules}
-use Rattle.tu_core.specs.Typed.{Known, StartsWith, GetsItsValue, IsVariable, IsOwn, is_constant, is_own, is_declared, known_in, TextIsTyped, IsTyped}
+use Rattle.tu_core.specs.Constants.{Known, known_in, is_declared}
+use Rattle.tu_core.specs.Typed.{StartsWith, GetsItsValue, IsVariable, IsOwn, is_constant, is_own, TextIsTyped, IsTyped}
 use Rattle.tu_meaning.specs.Store.{Root, OfProgram, OfActivation, OfCall, OfCollection, Place, place_of, Held, holds, holds_nothing, Actual, GivenValue, LentPlace, Store, held, with_held, fetch, assign, with_names_of, by_copying}
 use Rattle.tu_meaning.specs.References.{Cells, by_reference, changed_at, locate, locate_root, fetch_at, assign_at, held_by, bounds_in, alias_formals, entered, bound_alias}
 use Rattle.tu_meaning.specs.Words.{Back}

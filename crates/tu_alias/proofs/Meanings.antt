@@ -6,13 +6,23 @@ use Rattle.tu_base.specs.Values.{Way}
 use Rattle.std.specs.List.{Contains, list_all}
 use Rattle.tu_base.specs.Shapes.{all_words}
 use Rattle.tu_base.specs.Streams.{Folder}
-use Rattle.tu_core.specs.Core.{Variable, Global, Local, LocalName, Declared, DeclaredArray, BoundName, Counter, Caught, ResultName, Nothing, Routine, Program}
-use Rattle.tu_core.specs.Places.{Names, has_some, local_name, is_there, is_known, is_collection}
+use Rattle.tu_core.specs.Core.{Routine, Program}
+use Rattle.tu_core.specs.declared.names.Variable.{Variable}
+use Rattle.tu_core.specs.declared.names.Variable.TheVariants.{Global, Local}
+use Rattle.tu_core.specs.declared.names.LocalName.{LocalName}
+use Rattle.tu_core.specs.declared.names.LocalName.TheVariants.{Declared, DeclaredArray, BoundName, BoundText, BoundArray, Counter, Caught, ResultName}
+use Rattle.tu_core.specs.declared.names.CallResult.TheVariants.{Nothing}
+use Rattle.tu_core.specs.Places.{Names, main_names, names_of, has_some, local_name, is_known, is_collection}
 use Rattle.tu_core.specs.Rooms.{scalars_from}
-use Rattle.tu_core.specs.WellFormed.{is_well_formed, good_block, good_routine, good_blocks, good_names, good_tables, good_result_name, good_formal, good_local, good_result, can_keep, is_result_name, main_names, names_of}
+use Rattle.tu_core.specs.WellFormed.{is_well_formed, good_block, good_routine, good_blocks, good_names, good_tables, good_result_name, good_formal, good_local, good_result, can_keep, is_result_name, is_formed}
 use Rattle.tu_core.specs.Acts.{Subject, AVariable, ACollection, Act, routine_acts, main_acts}
 use Rattle.tu_core.specs.Rules.{KeepsTheRules}
-use Rattle.tu_core.specs.Typed.{IsVariable, is_own, is_declared, known_in, IsTyped}
+use Rattle.tu_core.specs.Constants.{is_declared, known_in}
+use Rattle.tu_core.specs.Typed.{IsVariable, is_own, IsTyped}
+use Rattle.tu_core.specs.Leaving.{exits_leave_loops, results_differ}
+use Rattle.tu_core.specs.TypeTest.{is_typed}
+use Rattle.tu_core.proofs.Tests.{no_so, left, right, all_pass}
+use Rattle.tu_core.proofs.WellTyped.{well_formed_is_typed}
 use Rattle.tu_meaning.specs.Steps.{lost, Added, Outcome, Done, Raised, Going, NoRule}
 use Rattle.tu_meaning.specs.Expressions.{root_of, Performs}
 use Rattle.tu_meaning.specs.Store.{Root, OfProgram, OfActivation, OfCall, OfCollection, Place, Actual, GivenValue, LentPlace, place_of, fetch, Store, unset_store, by_copying}
@@ -35,30 +45,15 @@ use Rattle.tu_alias_texts.proofs.Fitting.{IsGood, leave_of_main, main_fits}
 use Rattle.tu_alias_texts.proofs.GoodActs.{routine_acts_good, good_in, of_block}
 use Rattle.tu_alias.proofs.ByReference.{Activation, Stores, Allowed, IsFree, KeepsBounds, CanRead, CallsAlike, kept_by, activation_of, calls_alike}
 
-not_so : {A : Type 0} → false ≡ true → A
-not_so e = absurd (let h : false ≡ true = e in cc)
-
-left : (a b : Bool) → (a && b) ≡ true → a ≡ true
-left true b e = refl
-left false b e = not_so e
-
-right : (a b : Bool) → (a && b) ≡ true → b ≡ true
-right true b e = e
-right false b e = not_so e
-
--- an item of a list of which all pass a test
-all_pass : {A : Type 0} (test : A → Bool) (xs : List A) (n : ℕ) (a : A) → list_all test xs ≡ true → slice_get xs n ≡ Some a → test a ≡ true
-all_pass test [] n a e there = absurd (let h : None ≡ Some a = there in cc)
-all_pass test (x ∷ xs) zero a e there = subst (λ y. test y ≡ true) (let h : Some x ≡ Some a = there in let s : x ≡ a = cc in s) (left (test x) (list_all test xs) e)
-all_pass test (x ∷ xs) (suc n) a e there = all_pass test xs n a (right (test x) (list_all test xs) e) there
-
 result_own : (o : Option LocalName) → has_some is_result_name o ≡ true → (has_some is_own o ≡ true) × (has_some is_declared o ≡ false)
-result_own None e = not_so e
-result_own (Some (Declared n)) e = not_so e
-result_own (Some (DeclaredArray indexes component)) e = not_so e
-result_own (Some (BoundName is_scalar)) e = not_so e
-result_own (Some Counter) e = not_so e
-result_own (Some Caught) e = not_so e
+result_own None e = no_so e
+result_own (Some (Declared n)) e = no_so e
+result_own (Some (DeclaredArray indexes component)) e = no_so e
+result_own (Some (BoundName n)) e = no_so e
+result_own (Some BoundText) e = no_so e
+result_own (Some (BoundArray indexes component)) e = no_so e
+result_own (Some (Counter s)) e = no_so e
+result_own (Some Caught) e = no_so e
 result_own (Some ResultName) e = (refl, refl)
 
 result_named : (names : Names) (o : Option ℕ) → good_result_name names o ≡ true → (x : ℕ) → o ≡ Some x → (has_some is_own (local_name names x) ≡ true) × (has_some is_declared (local_name names x) ≡ false)
@@ -83,20 +78,20 @@ same_end t R x (Going s) r h = by r.1 h.0.reason
 
 one_root : (r q : Root) → are_one r q ≡ true → r ≡ q
 one_root (OfProgram x) (OfProgram y) e = ap OfProgram (grind (arith, nat_tests, e))
-one_root (OfProgram x) (OfActivation y) e = not_so e
-one_root (OfProgram x) (OfCall y) e = not_so e
-one_root (OfProgram x) (OfCollection d j) e = not_so e
-one_root (OfActivation x) (OfProgram y) e = not_so e
+one_root (OfProgram x) (OfActivation y) e = no_so e
+one_root (OfProgram x) (OfCall y) e = no_so e
+one_root (OfProgram x) (OfCollection d j) e = no_so e
+one_root (OfActivation x) (OfProgram y) e = no_so e
 one_root (OfActivation x) (OfActivation y) e = ap OfActivation (grind (arith, nat_tests, e))
-one_root (OfActivation x) (OfCall y) e = not_so e
-one_root (OfActivation x) (OfCollection d j) e = not_so e
-one_root (OfCall x) (OfProgram y) e = not_so e
-one_root (OfCall x) (OfActivation y) e = not_so e
+one_root (OfActivation x) (OfCall y) e = no_so e
+one_root (OfActivation x) (OfCollection d j) e = no_so e
+one_root (OfCall x) (OfProgram y) e = no_so e
+one_root (OfCall x) (OfActivation y) e = no_so e
 one_root (OfCall x) (OfCall y) e = ap OfCall (grind (arith, nat_tests, e))
-one_root (OfCall x) (OfCollection d j) e = not_so e
-one_root (OfCollection c k) (OfProgram y) e = not_so e
-one_root (OfCollection c k) (OfActivation y) e = not_so e
-one_root (OfCollection c k) (OfCall y) e = not_so e
+one_root (OfCall x) (OfCollection d j) e = no_so e
+one_root (OfCollection c k) (OfProgram y) e = no_so e
+one_root (OfCollection c k) (OfActivation y) e = no_so e
+one_root (OfCollection c k) (OfCall y) e = no_so e
 one_root (OfCollection c k) (OfCollection d j) e =
     let a : c ≡ d = same_number c d (left (c == d) (k == j) e) in let b : k ≡ j = same_number k j (right (c == d) (k == j) e) in
     ap (λ z. OfCollection z k) a ∙ ap (OfCollection d) b
@@ -143,14 +138,17 @@ lent_apart (LentPlace b bounds p ∷ more) a = by (is_apart b p more) (away_is_a
   where
     by : (x : Bool) → x ≡ true → are_apart more ≡ true → (x && are_apart more) ≡ true
     by true e f = f
-    by false e f = not_so e
+    by false e f = no_so e
 
 module _ (program : Program) (formed : is_well_formed program ≡ true) (typed : IsTyped program) (rules : KeepsTheRules program) where
+  is_formed_so : is_formed program ≡ true
+  is_formed_so = left (is_formed program) ((exits_leave_loops program && results_differ program) && is_typed program) formed
+
   main_good : good_block (main_names program) program.main ≡ true
-  main_good = left (good_block (main_names program) program.main) (list_all (good_routine program) program.routines && good_tables program) formed
+  main_good = left (good_block (main_names program) program.main) (list_all (good_routine program) program.routines && good_tables program) is_formed_so
 
   routine_good : (g : ℕ) (r : Routine) → slice_get program.routines g ≡ Some r → good_routine program r ≡ true
-  routine_good g r e = all_pass (good_routine program) program.routines g r (left (list_all (good_routine program) program.routines) (good_tables program) (right (good_block (main_names program) program.main) (list_all (good_routine program) program.routines && good_tables program) formed)) e
+  routine_good g r e = all_pass (good_routine program) program.routines g r (left (list_all (good_routine program) program.routines) (good_tables program) (right (good_block (main_names program) program.main) (list_all (good_routine program) program.routines && good_tables program) is_formed_so)) e
 
   pub acts_good : (g : ℕ) (r : Routine) → slice_get program.routines g ≡ Some r → (act : Act) → Contains (routine_acts r) act → IsGood (names_of program r Nothing false) act
   acts_good g r e = routine_acts_good program r (left (good_blocks program r) (good_names (names_of program r Nothing false) r) (routine_good g r e))
@@ -159,7 +157,7 @@ module _ (program : Program) (formed : is_well_formed program ≡ true) (typed :
   names_result g r e x is =
       let names = names_of program r Nothing false in
       let all = right (good_blocks program r) (good_names names r) (routine_good g r e) in
-      let some = right ((list_all (good_formal names) r.formals && list_all (good_local program) r.locals) && (list_all (is_there program.shapes) r.temporaries && good_result names r.gives)) ((good_result_name names r.result && (not r.is_invariant || can_keep r)) && (list_all (is_known names) r.fixed && list_all (is_collection names) r.fixed_collections)) all in
+      let some = right ((list_all (good_formal names) r.formals && list_all (good_local program) r.locals) && good_result names r.gives) ((good_result_name names r.result && (not r.is_invariant || can_keep r)) && (list_all (is_known names) r.fixed && list_all (is_collection names) r.fixed_collections)) all in
       let two = left (good_result_name names r.result && (not r.is_invariant || can_keep r)) (list_all (is_known names) r.fixed && list_all (is_collection names) r.fixed_collections) some in
       result_named names r.result (left (good_result_name names r.result) (not r.is_invariant || can_keep r) two) x is
 
@@ -249,7 +247,7 @@ module _ (program : Program) (formed : is_well_formed program ≡ true) (typed :
     }
 
 pub reference_is_copying : (program : Program) → ReferenceIsCopying program
-reference_is_copying program formed typed rules input files t = references_are_copies program formed typed rules t input files
+reference_is_copying program formed rules input files t = references_are_copies program formed (well_formed_is_typed program formed) rules t input files
 
 pub calls_are_apart : (program : Program) → CallsAreApart program
-calls_are_apart program formed typed rules input files t = runs_apart program formed typed rules t input files
+calls_are_apart program formed rules input files t = runs_apart program formed (well_formed_is_typed program formed) rules t input files

@@ -3,12 +3,19 @@ use Rattle.std.proofs.Common.{◌≡◌, ◌≢◌, ℕ, zero, suc, Bool, true, 
 use Rattle.std.specs.Prelude.{ℤ, ◌-◌, slice_get, is_some, nat_lt}
 use Rattle.std.proofs.lemmas.Bool.Decides.{nat_tests}
 use Rattle.tu_base.specs.declared.shape.Shape.{Shape}
-use Rattle.tu_core.specs.Core.{At, Variable, Global, Local, Path, Name, OpenItem, Element, ResultOf, Actuals, NoActual, Given, Lent, Formal, ByValue, ByCopy, ByVar, LocalName, Program}
+use Rattle.tu_core.specs.Core.{Path, Name, OpenItem, Element, ResultOf, Actuals, NoActual, Given, Lent, Program}
+use Rattle.tu_core.specs.declared.names.At.{At}
+use Rattle.tu_core.specs.declared.names.Variable.{Variable}
+use Rattle.tu_core.specs.declared.names.Variable.TheVariants.{Global, Local}
+use Rattle.tu_core.specs.declared.names.Formal.{Formal}
+use Rattle.tu_core.specs.declared.names.Formal.TheVariants.{ByValue, ByCopy, ByVar}
+use Rattle.tu_core.specs.declared.names.LocalName.{LocalName}
 use Rattle.tu_core.specs.Places.{Names, has_some, local_name}
 use Rattle.tu_core.specs.Acts.{Subject, AVariable, ACollection, subject_of}
 use Rattle.tu_core.specs.Effects.{Reads, Writes}
 use Rattle.tu_core.specs.Overlap.{ImportedIn}
-use Rattle.tu_core.specs.Typed.{Known, LendsRight, is_constant}
+use Rattle.tu_core.specs.Constants.{Known}
+use Rattle.tu_core.specs.Typed.{LendsRight, is_constant}
 use Rattle.tu_meaning.specs.Store.{Root, OfProgram, OfActivation, OfCall, OfCollection, Place, Actual, GivenValue, LentPlace, Passing, Store, formals, holds_nothing}
 use Rattle.tu_meaning.specs.Words.{misfit}
 use Rattle.tu_meaning.specs.Subprograms.{receive, receive_all}
@@ -129,20 +136,20 @@ module _ (shapes : List Shape) (bounds : Variable → List ℤ) (Good : Place �
     where
       no_modes : (f : Formal) → ModesFit (f ∷ modes) NoActual → ⊥
       no_modes (ByValue target) h = h
-      no_modes (ByCopy shape) h = h
-      no_modes (ByVar var) h = h
+      no_modes (ByCopy kind) h = h
+      no_modes (ByVar var kind) h = h
   not_const (ByValue target ∷ modes) (Given at size e more) given zero free h found = subst (λ z. NotConst z 0) (sym found.3) tt
   not_const (ByValue target ∷ modes) (Given at size e more) given (suc x) free h found = subst (λ z. NotConst z (suc x)) (sym found.3) (not_const modes more found.2 x free h found.4)
-  not_const (ByCopy shape ∷ modes) (Given at size e more) given x free h found = absurd h
-  not_const (ByVar var ∷ modes) (Given at size e more) given x free h found = absurd h
+  not_const (ByCopy kind ∷ modes) (Given at size e more) given x free h found = absurd h
+  not_const (ByVar var kind ∷ modes) (Given at size e more) given x free h found = absurd h
   not_const (ByValue target ∷ modes) (Lent at true bs path more) given x free h found = absurd h
   not_const (ByValue target ∷ modes) (Lent at false bs path more) given x free h found = absurd h
-  not_const (ByCopy shape ∷ modes) (Lent at true bs path more) given x free h found = absurd h
-  not_const (ByCopy shape ∷ modes) (Lent at false bs path more) given zero free h found = absurd (let e : true ≡ false = free in cc)
-  not_const (ByCopy shape ∷ modes) (Lent at false bs path more) given (suc x) free h found = subst (λ z. NotConst z (suc x)) (sym found.3) (not_const modes more found.2 x free h found.6)
-  not_const (ByVar var ∷ modes) (Lent at false bs path more) given x free h found = absurd h
-  not_const (ByVar var ∷ modes) (Lent at true bs path more) given zero free h found = subst (λ z. NotConst z 0) (sym found.3) tt
-  not_const (ByVar var ∷ modes) (Lent at true bs path more) given (suc x) free h found = subst (λ z. NotConst z (suc x)) (sym found.3) (not_const modes more found.2 x free h found.6)
+  not_const (ByCopy kind ∷ modes) (Lent at true bs path more) given x free h found = absurd h
+  not_const (ByCopy kind ∷ modes) (Lent at false bs path more) given zero free h found = absurd (let e : true ≡ false = free in cc)
+  not_const (ByCopy kind ∷ modes) (Lent at false bs path more) given (suc x) free h found = subst (λ z. NotConst z (suc x)) (sym found.3) (not_const modes more found.2 x free h found.6)
+  not_const (ByVar var kind ∷ modes) (Lent at false bs path more) given x free h found = absurd h
+  not_const (ByVar var kind ∷ modes) (Lent at true bs path more) given zero free h found = subst (λ z. NotConst z 0) (sym found.3) tt
+  not_const (ByVar var kind ∷ modes) (Lent at true bs path more) given (suc x) free h found = subst (λ z. NotConst z (suc x)) (sym found.3) (not_const modes more found.2 x free h found.6)
 
   pub is_owned : (modes : List Formal) (actuals : Actuals) (given : List Actual) (x : ℕ) → slice_get modes x ≡ None → ModesFit modes actuals → AreFound shapes bounds Good actuals given → Owned given x × ((s : Store) → formals s given x ≡ holds_nothing)
   is_owned [] NoActual given x free h found = subst (λ z. Owned z x × ((s : Store) → formals s z x ≡ holds_nothing)) (sym found) (tt, λ s. refl)
@@ -152,19 +159,19 @@ module _ (shapes : List Shape) (bounds : Variable → List ℤ) (Good : Place �
     where
       no_modes : (f : Formal) → ModesFit (f ∷ modes) NoActual → ⊥
       no_modes (ByValue target) h = h
-      no_modes (ByCopy shape) h = h
-      no_modes (ByVar var) h = h
+      no_modes (ByCopy kind) h = h
+      no_modes (ByVar var kind) h = h
   is_owned (f ∷ modes) (Given at size e more) given zero free h found = absurd (let e : Some f ≡ None = free in cc)
   is_owned (f ∷ modes) (Lent at is_var bs path more) given zero free h found = absurd (let e : Some f ≡ None = free in cc)
   is_owned (ByValue target ∷ modes) (Given at size e more) given (suc x) free h found = subst (λ z. Owned z (suc x) × ((s : Store) → formals s z (suc x) ≡ holds_nothing)) (sym found.3) (let o = is_owned modes more found.2 x free h found.4 in (o.0, o.1))
-  is_owned (ByCopy shape ∷ modes) (Given at size e more) given (suc x) free h found = absurd h
-  is_owned (ByVar var ∷ modes) (Given at size e more) given (suc x) free h found = absurd h
+  is_owned (ByCopy kind ∷ modes) (Given at size e more) given (suc x) free h found = absurd h
+  is_owned (ByVar var kind ∷ modes) (Given at size e more) given (suc x) free h found = absurd h
   is_owned (ByValue target ∷ modes) (Lent at true bs path more) given (suc x) free h found = absurd h
   is_owned (ByValue target ∷ modes) (Lent at false bs path more) given (suc x) free h found = absurd h
-  is_owned (ByCopy shape ∷ modes) (Lent at true bs path more) given (suc x) free h found = absurd h
-  is_owned (ByCopy shape ∷ modes) (Lent at false bs path more) given (suc x) free h found = subst (λ z. Owned z (suc x) × ((s : Store) → formals s z (suc x) ≡ holds_nothing)) (sym found.3) (let o = is_owned modes more found.2 x free h found.6 in (o.0, o.1))
-  is_owned (ByVar var ∷ modes) (Lent at false bs path more) given (suc x) free h found = absurd h
-  is_owned (ByVar var ∷ modes) (Lent at true bs path more) given (suc x) free h found = subst (λ z. Owned z (suc x) × ((s : Store) → formals s z (suc x) ≡ holds_nothing)) (sym found.3) (let o = is_owned modes more found.2 x free h found.6 in (o.0, o.1))
+  is_owned (ByCopy kind ∷ modes) (Lent at true bs path more) given (suc x) free h found = absurd h
+  is_owned (ByCopy kind ∷ modes) (Lent at false bs path more) given (suc x) free h found = subst (λ z. Owned z (suc x) × ((s : Store) → formals s z (suc x) ≡ holds_nothing)) (sym found.3) (let o = is_owned modes more found.2 x free h found.6 in (o.0, o.1))
+  is_owned (ByVar var kind ∷ modes) (Lent at false bs path more) given (suc x) free h found = absurd h
+  is_owned (ByVar var kind ∷ modes) (Lent at true bs path more) given (suc x) free h found = subst (λ z. Owned z (suc x) × ((s : Store) → formals s z (suc x) ≡ holds_nothing)) (sym found.3) (let o = is_owned modes more found.2 x free h found.6 in (o.0, o.1))
 
 -- what a call lends the caller may read, and change where it is `var`
 pub may_lend : (shapes : List Shape) (bounds : Variable → List ℤ) (may : Leave) (known : Known) (γ : Running) (actuals : Actuals) (given : List Actual) → ((x : Subject) → may.writes x → (q : Root) → RootOf x q → MayWrite γ q) → LendsFit may actuals → LendsRight known actuals → AreFound shapes bounds (λ q. MayRead γ q.root) actuals given → MayLend γ given
@@ -194,10 +201,10 @@ module _ {S S' : Type 0} (p : Passing S) (p' : Passing S') (t : ℕ) (program : 
   receive_alike : (f : Formal) (a : Actual) → Keeps S S' t ρ n (Unit {0}) Any (receive S p t program words line f a) (receive S' p' t program words line f a)
   receive_alike (ByValue target) (GivenValue bounds v) = sim_unless_raised line (misfit target [] v) ▹ λ _. sim_pay _
   receive_alike (ByValue target) (LentPlace is_var bounds q) = sim_lost
-  receive_alike (ByCopy shape) (GivenValue bounds v) = sim_lost
-  receive_alike (ByCopy shape) (LentPlace is_var bounds q) = sim_pay 1
-  receive_alike (ByVar at) (GivenValue bounds v) = sim_lost
-  receive_alike (ByVar at) (LentPlace is_var bounds q) = sim_pay 1
+  receive_alike (ByCopy kind) (GivenValue bounds v) = sim_lost
+  receive_alike (ByCopy kind) (LentPlace is_var bounds q) = sim_pay 1
+  receive_alike (ByVar at kind) (GivenValue bounds v) = sim_lost
+  receive_alike (ByVar at kind) (LentPlace is_var bounds q) = sim_pay 1
 
   pub receive_all_alike : (modes : List Formal) (given : List Actual) → Keeps S S' t ρ n (Unit {0}) Any (receive_all S p t program words line modes given) (receive_all S' p' t program words line modes given)
   receive_all_alike [] [] = sim_give tt tt

@@ -1,11 +1,10 @@
 -- What is lent is not reached by the callee's own names.
-use Rattle.std.proofs.Common.{◌≡◌, ℕ, true, false, List, ◌⊎◌, inl, inr, refl, sym, subst, Option, Some, None}
-use Rattle.std.specs.List.{Contains}
-use Rattle.tu_core.specs.Core.{At, Path, Calls, Actuals, NoActual, Given, Lent, Program}
-use Rattle.tu_core.specs.Acts.{Subject, subject_of, Act, Calling}
-use Rattle.tu_core.specs.Effects.{Reads, Writes, texts_of}
+use Rattle.std.proofs.Common.{◌≡◌, ℕ, true, false, ◌⊎◌, inl, inr, refl, sym, subst, Option, Some, None}
+use Rattle.tu_core.specs.Core.{Path, Calls, Actuals, NoActual, Given, Lent, Program}
+use Rattle.tu_core.specs.declared.names.At.{At}
+use Rattle.tu_core.specs.Acts.{Subject, subject_of, Calling}
+use Rattle.tu_core.specs.Effects.{Reads, Writes}
 use Rattle.tu_core.specs.Overlap.{OfSubject, ImportedIn}
-use Rattle.tu_core.specs.Rules.{KeepsTheRules}
 use Rattle.tu_alias.specs.Laws.{AreUnreached, LentIsUnreached}
 
 -- what holds of the subject of a path

@@ -3,12 +3,18 @@ use Rattle.std.proofs.Common.{◌≡◌, ◌≢◌, ℕ, zero, suc, ◌≤◌, �
 use Rattle.std.specs.Prelude.{ℤ, slice_get, is_some}
 use Rattle.std.specs.List.{Contains}
 use Rattle.tu_base.specs.Values.{Content, part, with_part}
-use Rattle.tu_core.specs.Core.{Variable, Global, Local, Path, Call, Calls, Named, Nothing, Routine, Program}
-use Rattle.tu_core.specs.WellFormed.{is_well_formed, names_of}
+use Rattle.tu_core.specs.Core.{Path, Call, Calls, Named, Routine, Program}
+use Rattle.tu_core.specs.declared.names.Variable.{Variable}
+use Rattle.tu_core.specs.declared.names.Variable.TheVariants.{Global, Local}
+use Rattle.tu_core.specs.declared.names.CallResult.TheVariants.{Nothing}
+use Rattle.tu_core.specs.Places.{names_of}
+use Rattle.tu_core.specs.WellFormed.{is_well_formed}
 use Rattle.tu_core.specs.Acts.{Subject, AVariable, ACollection, subject_of}
 use Rattle.tu_core.specs.Effects.{is_outer, called_by, CallsOne}
 use Rattle.tu_core.specs.Rules.{KeepsTheRules}
-use Rattle.tu_core.specs.Typed.{Known, IsOwn, known_in, IsTyped}
+use Rattle.tu_core.specs.Constants.{Known, known_in}
+use Rattle.tu_core.specs.Typed.{IsOwn, IsTyped}
+use Rattle.tu_core.proofs.WellTyped.{well_formed_is_typed}
 use Rattle.tu_meaning.specs.Steps.{Added, State, Outcome, Done, Raised, Going, NoRule}
 use Rattle.tu_meaning.specs.Store.{Root, OfProgram, OfActivation, OfCall, OfCollection, Place, place_of, Held, holds, holds_nothing, Actual, GivenValue, LentPlace, Store, held, with_held, fetch, assign, formals, copied, copied_back, with_names_of, by_copying}
 use Rattle.tu_meaning.specs.Words.{Back}
@@ -302,5 +308,5 @@ module _ (x : Subject) (outer : is_outer x ≡ true) (before before' : Store) (s
           same_end s.counts.turns (run s).0 (run s).1 (run (with_store s before')) ((routine_alike n (calls Store by_copying t program words n) (calls_alike n) callee r there unseen).by s before' le within (subst (λ z. R z before') (sym is) (begins same)))
 
 pub nothing_lent_is_seen : (program : Program) → NothingLentIsSeen program
-nothing_lent_is_seen program formed typed rules callee r there x outer no_read no_write words t n s before' bounds same le within =
-    unseen_run x outer s.store before' bounds program words t formed typed rules n callee r there (λ touch. elim touch [ inl h ↦ no_read h | inr h ↦ no_write h ]) s refl same le within
+nothing_lent_is_seen program formed rules callee r there x outer no_read no_write words t n s before' bounds same le within =
+    unseen_run x outer s.store before' bounds program words t formed (well_formed_is_typed program formed) rules n callee r there (λ touch. elim touch [ inl h ↦ no_read h | inr h ↦ no_write h ]) s refl same le within

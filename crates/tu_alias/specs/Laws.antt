@@ -2,11 +2,11 @@
 use Rattle.std.specs.Prelude.{◌≡◌, ℕ, true, false, List, Option, Some}
 use Rattle.std.specs.List.{Contains}
 use Rattle.tu_base.specs.Streams.{Folder}
-use Rattle.tu_core.specs.Core.{At, Calls, Actuals, NoActual, Given, Lent, Program}
+use Rattle.tu_core.specs.Core.{Calls, Actuals, NoActual, Given, Lent, Program}
+use Rattle.tu_core.specs.declared.names.At.{At}
 use Rattle.tu_core.specs.Acts.{Subject, subject_of, Act, Calling}
 use Rattle.tu_core.specs.Effects.{Reads, Writes, texts_of}
 use Rattle.tu_core.specs.WellFormed.{is_well_formed}
-use Rattle.tu_core.specs.Typed.{IsTyped}
 use Rattle.tu_core.specs.Rules.{KeepsTheRules}
 use Rattle.tu_meaning.specs.Programs.{meaning, reference_meaning}
 use Rattle.tu_meaning.specs.Store.{Store, unset_store, by_copying}
@@ -15,7 +15,7 @@ use Rattle.tu_alias.specs.Guarded.{guarded_meaning}
 
 -- By reference equals by copying: in a program that keeps the rules no input, no files and no number of turns tell a location from a copy.
 abbrev pub ReferenceIsCopying : Program → Type 0
-ReferenceIsCopying program = is_well_formed program ≡ true → IsTyped program → KeepsTheRules program → (input : List ℕ) (files : Option Folder) (t : ℕ) → reference_meaning program input files t ≡ meaning program input files t
+ReferenceIsCopying program = is_well_formed program ≡ true → KeepsTheRules program → (input : List ℕ) (files : Option Folder) (t : ℕ) → reference_meaning program input files t ≡ meaning program input files t
 
 -- What is lent as `var` is no part of what the callee reads or changes by its own names, and what is lent to a constant formal no part of
 -- what it changes by them.
@@ -36,4 +36,4 @@ pub record RunsApart (program : Program) (input : List ℕ) (files : Option Fold
   pub by_locations : guarded_meaning Cells by_reference unset_cells program input files t ≡ reference_meaning program input files t
 
 abbrev pub CallsAreApart : Program → Type 0
-CallsAreApart program = is_well_formed program ≡ true → IsTyped program → KeepsTheRules program → (input : List ℕ) (files : Option Folder) (t : ℕ) → RunsApart program input files t
+CallsAreApart program = is_well_formed program ≡ true → KeepsTheRules program → (input : List ℕ) (files : Option Folder) (t : ℕ) → RunsApart program input files t

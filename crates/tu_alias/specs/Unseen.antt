@@ -1,8 +1,8 @@
 -- What a routine neither reads nor changes it does not see, so that what is lent to it is seen by way of its formals alone.
 use Rattle.std.specs.Prelude.{◌≡◌, ◌≢◌, ℕ, ◌≤◌, ◌+◌, true, List, Option, None, Some, slice_get}
-use Rattle.tu_core.specs.Core.{Global, Local, Routine, Program}
+use Rattle.tu_core.specs.Core.{Routine, Program}
+use Rattle.tu_core.specs.declared.names.Variable.TheVariants.{Global, Local}
 use Rattle.tu_core.specs.WellFormed.{is_well_formed}
-use Rattle.tu_core.specs.Typed.{IsTyped}
 use Rattle.tu_core.specs.Acts.{Subject, AVariable, ACollection}
 use Rattle.tu_core.specs.Effects.{is_outer, Reads, Writes}
 use Rattle.tu_core.specs.Rules.{KeepsTheRules}
@@ -34,7 +34,7 @@ EndAlike x before before' (NoRule s) o = (now' : Store) × (o ≡ NoRule (record
 -- Its calls may be so deep as there are turns left.
 abbrev pub NothingLentIsSeen : Program → Type 0
 NothingLentIsSeen program =
-    is_well_formed program ≡ true → IsTyped program → KeepsTheRules program → (callee : ℕ) (r : Routine) → slice_get program.routines callee ≡ Some r → (x : Subject) → is_outer x ≡ true → (Reads program callee x → ⊥) → (Writes program callee x → ⊥) →
+    is_well_formed program ≡ true → KeepsTheRules program → (callee : ℕ) (r : Routine) → slice_get program.routines callee ≡ Some r → (x : Subject) → is_outer x ≡ true → (Reads program callee x → ⊥) → (Writes program callee x → ⊥) →
     (words : List ℕ) (t n : ℕ) (s : State Store) (before' : Store) → ((root : Root) → (held s.store root).bounds ≡ (held before' root).bounds) → ((root : Root) → subject_at root ≢ Some x → held s.store root ≡ held before' root) → t ≤ n + s.counts.turns → s.counts.turns ≤ t →
     let run = run_routine Store by_copying t program words n (calls Store by_copying t program words n) r in
     ((run s).0 ≡ (run (record s { store = before' })).0) × EndAlike x s.store before' (run s).1 (run (record s { store = before' })).1

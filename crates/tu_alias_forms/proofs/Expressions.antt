@@ -11,10 +11,16 @@ use Rattle.tu_base.specs.Scalars.{binary, decided, is_true}
 use Rattle.tu_base.specs.Texts.{compare_texts, joined, repeated, place_in, character_at, part_from, byte_of, text_of_byte, int_text, text_int, put_int, put_truth, put_text}
 use Rattle.tu_base.specs.Sets.{Base, with_member, membership, combined, compare_sets}
 use Rattle.tu_base.specs.Reading.{look as look_ahead}
-use Rattle.tu_core.specs.Core.{At, Variable, Scalar, Literal, Use, Prefixed, Chain, CompareTexts, CompareSets, ComparePointers, Member, Length, PlaceIn, ByteOf, TextInt, Bound, AtEnd, CallScalar, Links, NoLink, Link, Decide, Text, Written, UseText, Joined, Cut, Character, IntText, Repeat, CallText, Texts, NoText, AndText, Cuts, NoCut, CutCharacter, CutPart, Spot, Exactly, Last, BeforeLast, Set, SetOf, FullSet, UseSet, Combined, CallSet, Combinations, NoSet, AndSet, Pointer, Nil, UsePointer, CallPointer, Scalars, NoScalar, AndScalar, Optional, Absent, Present, Path, Name, OpenItem, Element, ResultOf, Selectors, End, Field, VariantField, Item, Subscripts, NoSubscript, Subscript, Call, Calls, Actuals, NoActual, Given, Lent, Simple, AScalar, AText, ASet, APointer, Start, WithValue, WithCopy, WithParts, Starts, NoStart, AndStart, Range, FromTo, Through, Shown, NoneShown, ShowInt, ShowTruth, ShowText, Index, Known, Open, Target, Program}
+use Rattle.tu_core.specs.Core.{Scalar, Literal, Use, Prefixed, Chain, CompareTexts, CompareSets, ComparePointers, Member, Length, PlaceIn, ByteOf, TextInt, Bound, AtEnd, CallScalar, Links, NoLink, Link, Decide, Text, Written, UseText, Joined, Cut, Character, IntText, Repeat, CallText, Texts, NoText, AndText, Cuts, NoCut, CutCharacter, CutPart, Spot, Exactly, Last, BeforeLast, Set, SetOf, FullSet, UseSet, Combined, CallSet, Combinations, NoSet, AndSet, Pointer, Nil, UsePointer, CallPointer, Scalars, NoScalar, AndScalar, Optional, Absent, Present, Path, Name, OpenItem, Element, ResultOf, Selectors, End, Field, VariantField, Item, Subscripts, NoSubscript, Subscript, Call, Calls, Actuals, NoActual, Given, Lent, Simple, AScalar, AText, ASet, APointer, Start, WithValue, WithCopy, WithParts, Starts, NoStart, AndStart, Range, FromTo, Through, Shown, NoneShown, ShowInt, ShowTruth, ShowText, Program}
+use Rattle.tu_core.specs.declared.names.At.{At}
+use Rattle.tu_core.specs.declared.names.Variable.{Variable}
+use Rattle.tu_core.specs.declared.targets.Index.{Index}
+use Rattle.tu_core.specs.declared.targets.Index.TheVariants.{Known, Open}
+use Rattle.tu_core.specs.declared.targets.Target.{Target}
 use Rattle.tu_core.specs.Walk.{Pair, pairs_of}
 use Rattle.tu_core.specs.Acts.{Subject, AVariable, ACollection, subject_of, Act, Reading, Changing, Calling, lending, scalar_acts, links_acts, optional_acts, text_acts, texts_acts, cuts_acts, spot_acts, set_acts, combinations_acts, scalars_acts, pointer_acts, simple_acts, path_acts, selectors_acts, subscripts_acts, call_acts, actuals_acts, start_acts, starts_acts, shown_acts, range_acts}
-use Rattle.tu_core.specs.Typed.{Known as Constants, answer_value, use_value, value_of, chain_value, binary_value, unless_decided_value, HaveValues, SelectorsHaveValues, PathHasValues, StartsWith, LendsRight}
+use Rattle.tu_core.specs.Constants.{Known as Constants, answer_value, use_value, value_of, chain_value, binary_value, unless_decided_value}
+use Rattle.tu_core.specs.Typed.{HaveValues, SelectorsHaveValues, PathHasValues, StartsWith, LendsRight}
 use Rattle.tu_meaning.specs.Steps.{Step, ◌>>=◌}
 use Rattle.tu_meaning.specs.Store.{Root, OfCall, OfCollection, Place, place_of, holds, Actual, GivenValue, LentPlace, Passing, actuals_meet, lent_at}
 use Rattle.tu_meaning.specs.Words.{Back, content_back, spans_of, are_within, row_number, present}

@@ -2,7 +2,10 @@
 use Rattle.std.proofs.Common.{◌≡◌, ◌≢◌, ℕ, zero, suc, ◌==◌, Bool, true, false, List, [], ◌∷◌, ◌++◌, length, ◌⊎◌, inl, inr, Some, refl, sym, ap, subst, arith}
 use Rattle.std.specs.List.{Contains}
 use Rattle.std.proofs.lemmas.Bool.Decides.{nat_tests}
-use Rattle.tu_core.specs.Core.{At, Variable, Global, Local, Path, Call, Calls, Named, Program}
+use Rattle.tu_core.specs.Core.{Path, Call, Calls, Named, Program}
+use Rattle.tu_core.specs.declared.names.At.{At}
+use Rattle.tu_core.specs.declared.names.Variable.{Variable}
+use Rattle.tu_core.specs.declared.names.Variable.TheVariants.{Global, Local}
 use Rattle.tu_core.specs.Acts.{Subject, AVariable, ACollection, subject_of, Act, Reading, Changing, Naming, Talking, Calling, Binding, Declaring, Defining, Fixing}
 use Rattle.tu_core.specs.Effects.{is_one, changes, called_by, Reads, Writes}
 use Rattle.tu_core.specs.Overlap.{CallsAny, IsHidden, IsChanged}

@@ -8,12 +8,16 @@ use Rattle.tu_base.specs.declared.shape.Shape.{Shape}
 use Rattle.tu_base.specs.declared.shape.Shape.TheVariants.{Scalar as scalar_shape, Text as text_shape, Set as set_shape, Pointer as pointer_shape, Array as array_shape, Record as record_shape, Union as union_shape}
 use Rattle.tu_base.specs.Scalars.{are_equal}
 use Rattle.tu_base.specs.Values.{Value, Way}
-use Rattle.tu_core.specs.Core.{At, Variable, Global, Local, Path, Name, OpenItem, Element, ResultOf, Selectors, End, Field, VariantField, Item, Subscripts, NoSubscript, Subscript, Actuals, NoActual, Given, Lent}
+use Rattle.tu_core.specs.Core.{Path, Name, OpenItem, Element, ResultOf, Selectors, End, Field, VariantField, Item, Subscripts, NoSubscript, Subscript, Actuals, NoActual, Given, Lent}
+use Rattle.tu_core.specs.declared.names.At.{At}
+use Rattle.tu_core.specs.declared.names.Variable.{Variable}
+use Rattle.tu_core.specs.declared.names.Variable.TheVariants.{Global, Local}
 use Rattle.tu_core.specs.Rooms.{is_same}
 use Rattle.tu_core.specs.Walk.{Noted, AtElements, AtStep, Verdict, Apart as IsApart, Same, Maybe, Brackets, Differ, Agree, Unknown, both_brackets, one_subscript, brackets, ended, behind_brackets, walk_steps, walk, Pair, pair_if, pairs_with, pairs_from, pairs_of}
 use Rattle.tu_core.specs.Acts.{subject_of}
 use Rattle.tu_core.specs.Overlap.{SharedWith, SharedIn}
-use Rattle.tu_core.specs.Typed.{Known, SelectAlike, AreAlike, AlikeWith, LendsRight}
+use Rattle.tu_core.specs.Constants.{Known}
+use Rattle.tu_core.specs.Typed.{SelectAlike, AreAlike, AlikeWith, LendsRight}
 use Rattle.tu_meaning.specs.Words.{are_within, row_number, spans_of}
 use Rattle.tu_meaning.specs.Store.{Root, OfProgram, OfActivation, OfCall, OfCollection, Place, Actual, GivenValue, LentPlace, lent_place, lent_at, creation_of, is_equal_at, are_equal_at, actuals_meet}
 use Rattle.tu_meaning.specs.Expressions.{root_of}

@@ -9,10 +9,19 @@ use Rattle.tu_base.specs.Scalars.{are_equal, truth_number}
 use Rattle.tu_base.specs.Texts.{token_int, token_truth, token_text}
 use Rattle.tu_base.specs.Reading.{token, line as whole_line, count}
 use Rattle.tu_base.specs.Streams.{open_stream, close_stream}
-use Rattle.tu_core.specs.Core.{At, Variable, Local, Scalar, Text, Optional, Absent, Present, Path, Name, OpenItem, Element, ResultOf, Call, NoActual, Simple, Start, Taken, NoneTaken, TakeInt, TakeTruth, TakeToken, TakeLine, TakeCount, Test, Plain, Assign, Copy, Exit, Return, Give, GiveCopy, Check, New, Free, Tag, Put, Get, OpenStream, Close, Do, Quit, Size, Target, TakesScalar, Named, Declaration, Constant, InitClause, Variables, Started, Arrays, Collections, Mention, Statement, Simply, If, Loop, For, Case, Begin, Module, Block, Empty, Then, Declare, Bind, Otherwise, Else, Elsif, Arms, NoArm, Default, Labelled, Handler, NoHandler, Handles, Result, Nothing, OneValue, OnePlace, Routine, Program}
+use Rattle.tu_core.specs.Core.{Scalar, Text, Optional, Absent, Present, Path, Name, OpenItem, Element, ResultOf, Call, NoActual, Simple, Start, Taken, NoneTaken, TakeInt, TakeTruth, TakeToken, TakeLine, TakeCount, Test, Plain, Assign, Copy, Exit, Return, Give, GiveCopy, Check, New, Free, Tag, Put, Get, OpenStream, Close, Do, Quit, Named, Declaration, Constant, InitClause, Variables, Started, Arrays, Collections, Mention, Statement, Simply, If, Loop, For, Case, Begin, Module, Block, Empty, Then, Declare, Bind, Otherwise, Else, Elsif, Arms, NoArm, Default, Labelled, Handler, NoHandler, Handles, Routine, Program}
+use Rattle.tu_core.specs.declared.names.At.{At}
+use Rattle.tu_core.specs.declared.names.Variable.{Variable}
+use Rattle.tu_core.specs.declared.names.Variable.TheVariants.{Local}
+use Rattle.tu_core.specs.declared.targets.Size.{Size}
+use Rattle.tu_core.specs.declared.targets.Target.{Target}
+use Rattle.tu_core.specs.declared.targets.Target.TheVariants.{TakesScalar}
+use Rattle.tu_core.specs.declared.names.CallResult.{CallResult}
+use Rattle.tu_core.specs.declared.names.CallResult.TheVariants.{Nothing, OneValue, OnePlace}
 use Rattle.tu_core.specs.Rooms.{joins, scalars_of}
 use Rattle.tu_core.specs.Acts.{Subject, AVariable, ACollection, subject_of, Act, Reading, Changing, Declaring, Defining, Binding, Calling, lending, scalar_acts, optional_acts, text_acts, simple_acts, scalars_acts, path_acts, start_acts, shown_acts, taken_acts, also_read, plain_acts, constant_acts, constants_acts, declaration_acts, range_acts, test_acts, invariant_acts, with_fixed, statement_acts, block_acts, otherwise_acts, arms_acts, handler_acts}
-use Rattle.tu_core.specs.Typed.{Known as Constants, StartsWith}
+use Rattle.tu_core.specs.Constants.{Known as Constants}
+use Rattle.tu_core.specs.Typed.{StartsWith}
 use Rattle.tu_meaning.specs.Steps.{Step, scope}
 use Rattle.tu_meaning.specs.Store.{Root, OfCall, OfCollection, Place, place_of, Held, holds, holds_nothing, Passing}
 use Rattle.tu_meaning.specs.Words.{Back, content_back, Flow, Next, Exits, Returns, GivesBack, misfit}
@@ -287,7 +296,7 @@ module _ {S S' : Type 0} (p : Passing S) (p' : Passing S') (t : ℕ) (program : 
   sim_result_of c n line Returns = raises kind.Result line
   sim_result_of c n line (GivesBack b) = sim_give b tt
 
-  sim_unless_missing : (c : C) (n line : ℕ) (result : Result) (flow : Flow) → Keeps S S' t (R c) n Back Any (unless_missing S p t program words line result flow) (unless_missing S' p' t program words line result flow)
+  sim_unless_missing : (c : C) (n line : ℕ) (result : CallResult) (flow : Flow) → Keeps S S' t (R c) n Back Any (unless_missing S p t program words line result flow) (unless_missing S' p' t program words line result flow)
   sim_unless_missing c n line Nothing flow = sim_give _ tt
   sim_unless_missing c n line (OneValue target) flow = sim_result_of c n line flow
   sim_unless_missing c n line (OnePlace shape) flow = sim_result_of c n line flow

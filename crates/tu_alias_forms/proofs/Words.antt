@@ -9,7 +9,7 @@ use Rattle.tu_base.specs.declared.shape.Shape.{Shape}
 use Rattle.tu_base.specs.declared.shape.Shape.TheVariants.{Scalar as scalar_shape, Text as text_shape, Set as set_shape, Pointer as pointer_shape, Array as array_shape, Record as record_shape, Union as union_shape}
 use Rattle.tu_base.specs.Scalars.{Answer, Gives, Raises, unary, truth_number}
 use Rattle.tu_base.specs.Values.{Value, Unset, Number, scalar_in}
-use Rattle.tu_core.specs.Typed.{answer_value, prefixed_value, unless_decided_value}
+use Rattle.tu_core.specs.Constants.{answer_value, prefixed_value, unless_decided_value}
 use Rattle.tu_meaning.specs.Steps.{Added, State, Outcome, Done, Raised, Going, NoRule, Step, give, scope, ◌>>=◌}
 use Rattle.tu_meaning.specs.Words.{answered, present, found, demand, prefixed, unless_decided, subscribed, indexes_of, are_within, row_number}
 use Rattle.tu_meaning.proofs.Alike.{Alike, Sim, sim_bind, sim_give, sim_raise, sim_lost, sim_if, sim_pay, with_store}

@@ -2,14 +2,20 @@
 use Rattle.std.proofs.Common.{◌≡◌, ◌≢◌, ℕ, Bool, true, false, List, [], ◌∷◌, ◌⊎◌, inl, inr, Option, Some, None, refl, sym, ◌∙◌, ap, subst}
 use Rattle.std.specs.Prelude.{ℤ, slice_get, is_some, take}
 use Rattle.std.specs.List.{Contains}
-use Rattle.tu_core.specs.Core.{At, Variable, Global, Local, Path, Call, Calls, Actuals, NoActual, Given, Lent, Formal, ByValue, ByCopy, ByVar, LocalName, BoundName, Nothing, Routine, Program}
-use Rattle.tu_core.specs.Places.{Names, has_some, local_name}
-use Rattle.tu_core.specs.WellFormed.{names_of, main_names}
+use Rattle.tu_core.specs.Core.{Path, Call, Calls, Actuals, NoActual, Given, Lent, Routine, Program}
+use Rattle.tu_core.specs.declared.names.At.{At}
+use Rattle.tu_core.specs.declared.names.Variable.{Variable}
+use Rattle.tu_core.specs.declared.names.Variable.TheVariants.{Global, Local}
+use Rattle.tu_core.specs.declared.names.Formal.{Formal}
+use Rattle.tu_core.specs.declared.names.Formal.TheVariants.{ByValue, ByCopy, ByVar}
+use Rattle.tu_core.specs.declared.names.CallResult.TheVariants.{Nothing}
+use Rattle.tu_core.specs.Places.{Names, names_of, main_names, has_some, local_name}
 use Rattle.tu_core.specs.Acts.{Subject, AVariable, ACollection, subject_of, Act, Reading, Changing, Naming, Talking, Calling, Binding, Declaring, Defining, Fixing, routine_acts, main_acts}
 use Rattle.tu_core.specs.Effects.{changes, called_by, CallsOne, Writes, Among, tails, texts_of}
 use Rattle.tu_core.specs.Overlap.{SharedOf, SharedIn, ImportedOf, ImportedIn, IsHidden, IsChanged}
 use Rattle.tu_core.specs.Rules.{KeepsTheRules}
-use Rattle.tu_core.specs.Typed.{Known, LendsRight, is_declared, is_own, IsVariable, IsOwn, TextIsTyped, GetsItsValue, known_in}
+use Rattle.tu_core.specs.Constants.{Known, known_in, is_declared}
+use Rattle.tu_core.specs.Typed.{LendsRight, is_own, IsVariable, IsOwn, TextIsTyped, GetsItsValue}
 use Rattle.tu_alias_forms.proofs.Fits.{Leave, InScope, KeepsScope, ActFits, Fits, Touches, is_itself}
 use Rattle.tu_alias_texts.proofs.Reached.{in_tails, in_scope_of, fits_of, reads_itself, writes_itself, calls_itself, main_is_text, routine_is_text}
 
@@ -17,15 +23,19 @@ use Rattle.tu_alias_texts.proofs.Reached.{in_tails, in_scope_of, fits_of, reads_
 abbrev pub ModesFit : List Formal → Actuals → Type 0
 ModesFit [] NoActual = Unit {0}
 ModesFit (ByValue target ∷ more) (Given at size e others) = ModesFit more others
-ModesFit (ByCopy shape ∷ more) (Lent at false bounds path others) = ModesFit more others
-ModesFit (ByVar var ∷ more) (Lent at true bounds path others) = ModesFit more others
+ModesFit (ByCopy kind ∷ more) (Lent at false bounds path others) = ModesFit more others
+ModesFit (ByVar var kind ∷ more) (Lent at true bounds path others) = ModesFit more others
 ModesFit formals actuals = ⊥
+
+-- A name of a bind is no declared one, and none of the text's own.
+abbrev pub NamesBind : Names → ℕ → Type 0
+NamesBind names x = (has_some is_declared (local_name names x) ≡ false) × (has_some is_own (local_name names x) ≡ false)
 
 -- what a well formed core says of an act
 abbrev pub IsGood : Names → Act → Type 0
 IsGood names (Calling (Calls at callee invariant actuals)) =
     ((r : Routine) → slice_get names.program.routines callee ≡ Some r → ModesFit r.formals actuals) × ((m : ℕ) (r : Routine) → invariant ≡ Some m → slice_get names.program.routines m ≡ Some r → ModesFit r.formals NoActual)
-IsGood names (Binding at name is_var path extent) = (is_scalar : Bool) × (local_name names name ≡ Some (BoundName is_scalar))
+IsGood names (Binding at name is_var path extent) = NamesBind names name
 IsGood names act = Unit {0}
 
 module _ (program : Program) where
@@ -120,27 +130,23 @@ module _ (program : Program) where
             λ m is_m. record { lends = tt; none_shared = λ place h. h; none_imported = λ place h. h; modes = λ r e. fit.1 m r is_m (ap (λ p. slice_get p.routines m) same ∙ e) },
           )
 
-      -- a bound name is no declared one
-      other_name : (name : ℕ) (is_scalar : Bool) → local_name names name ≡ Some (BoundName is_scalar) → (test : LocalName → Bool) → test (BoundName is_scalar) ≡ false → has_some test (local_name names name) ≡ true → ⊥
-      other_name name is_scalar e test fails so = let f : has_some test (Some (BoundName is_scalar)) ≡ true = subst (λ o. has_some test o ≡ true) e so in let both : true ≡ false = sym f ∙ fails in cc
-
       known_or_not : (o : Option ℤ) → (o ≡ None) ⊎ (o ≢ None)
       known_or_not None = inl refl
       known_or_not (Some z) = inr (λ e. let h : Some z ≡ None = e in cc)
 
-      bound_unknown : (name : ℕ) (is_scalar : Bool) → local_name names name ≡ Some (BoundName is_scalar) → known (Local name) ≡ None
-      bound_unknown name is_scalar e = elim (known_or_not (known (Local name))) [ inl h ↦ h | inr ne ↦ absurd (other_name name is_scalar e is_declared refl (typed.declared name ne)) ]
+      bound_unknown : (name : ℕ) → NamesBind names name → known (Local name) ≡ None
+      bound_unknown name e = elim (known_or_not (known (Local name))) [ inl h ↦ h | inr ne ↦ absurd (let both : true ≡ false = sym (typed.declared name ne) ∙ e.0 in cc) ]
 
-      own_is_other : (name : ℕ) (is_scalar : Bool) → local_name names name ≡ Some (BoundName is_scalar) → (v : Variable) → IsOwn names is_routine known v → v ≢ Local name
-      own_is_other name is_scalar e (Global x) own is = let h : Global x ≡ Local name = is in cc
-      own_is_other name is_scalar e (Local x) own is =
+      own_is_other : (name : ℕ) → NamesBind names name → (v : Variable) → IsOwn names is_routine known v → v ≢ Local name
+      own_is_other name e (Global x) own is = let h : Global x ≡ Local name = is in cc
+      own_is_other name e (Local x) own is =
           let same' : x ≡ name = (let h : Local x ≡ Local name = is in cc) in
-          other_name name is_scalar e is_own refl (subst (λ z. has_some is_own (local_name names z) ≡ true) same' own)
+          let both : true ≡ false = sym (subst (λ z. has_some is_own (local_name names z) ≡ true) same' own) ∙ e.1 in cc
 
       binds_well : (at : At) (name : ℕ) (is_var : Bool) (path : Path) (extent : ℕ) → Contains acts (Binding at name is_var path extent) → BindsWell names known name path
       binds_well at name is_var path extent is =
           let one = typed.each (Binding at name is_var path extent) is in let named = good (Binding at name is_var path extent) is in
-          (one.0, one.1, bound_unknown name named.0 named.1)
+          (one.0, one.1, bound_unknown name named)
 
       scope_fits : (at : At) (name : ℕ) (is_var : Bool) (path : Path) (extent : ℕ) (behind : List Act) → Contains (tails acts) (Binding at name is_var path extent, behind) → (x : Subject) → subject_of path ≡ Some x → InScope (KeepsScope program is_var name x) extent behind
       scope_fits at name is_var path extent behind is x e = in_scope_of (KeepsScope program is_var name x) extent behind (kept_scope at name is_var path extent behind is (keeps_name at name is_var path extent behind is) x e)
@@ -166,8 +172,8 @@ module _ (program : Program) where
         let names = names_of program r Nothing false in let text = routine_is_text program g r found in let known = known_in globals locals in
         let named = good (Binding at name is_var path extent) i in (
           binds_well rules (routine_acts r) text names true known typed good refl at name is_var path extent i,
-          (λ v h. own_is_other rules (routine_acts r) text names true known typed good refl name named.0 named.1 v h.1),
-          (λ d h. own_is_other rules (routine_acts r) text names true known typed good refl name named.0 named.1 d.name h.0),
+          (λ v h. own_is_other rules (routine_acts r) text names true known typed good refl name named v h.1),
+          (λ d h. own_is_other rules (routine_acts r) text names true known typed good refl name named d.name h.0),
           scope_fits rules (routine_acts r) text names true known typed good refl at name is_var path extent behind is,
         )
     routine_act g r found typed good (Declaring at v, behind) is = typed.each (Declaring at v) (in_tails (routine_acts r) (Declaring at v, behind) is)
@@ -190,8 +196,8 @@ module _ (program : Program) where
         let names = main_names program in let text = main_is_text program in let known = known_in globals locals in
         let named = good (Binding at name is_var path extent) i in (
           binds_well rules (main_acts program) text names false known typed good refl at name is_var path extent i,
-          (λ v h. own_is_other rules (main_acts program) text names false known typed good refl name named.0 named.1 v h.1),
-          (λ d h. own_is_other rules (main_acts program) text names false known typed good refl name named.0 named.1 d.name h.0),
+          (λ v h. own_is_other rules (main_acts program) text names false known typed good refl name named v h.1),
+          (λ d h. own_is_other rules (main_acts program) text names false known typed good refl name named d.name h.0),
           scope_fits rules (main_acts program) text names false known typed good refl at name is_var path extent behind is,
         )
     main_act typed good (Declaring at v, behind) is = typed.each (Declaring at v) (in_tails (main_acts program) (Declaring at v, behind) is)

@@ -3,7 +3,8 @@ use Rattle.std.proofs.Common.{◌≡◌, ℕ, zero, suc, Bool, true, false, ◌|
 use Rattle.std.specs.Prelude.{slice_get, take, map}
 use Rattle.std.specs.List.{Contains, list_any, flat_map}
 use Rattle.std.proofs.lemmas.List.Elements.{Contains-append_left, Contains-append_right}
-use Rattle.tu_core.specs.Core.{At, Call, Routine, Program}
+use Rattle.tu_core.specs.Core.{Call, Routine, Program}
+use Rattle.tu_core.specs.declared.names.At.{At}
 use Rattle.tu_core.specs.Acts.{Subject, Act, Reading, Calling, routine_acts, main_acts}
 use Rattle.tu_core.specs.Effects.{is_outer, reads, changes, called_by, called, acts_of, here, step, CallsOne, Does, Reads, Writes, tails, texts_of}
 use Rattle.tu_alias_forms.proofs.Fits.{Leave, InScope, ActFits, Fits, is_itself}

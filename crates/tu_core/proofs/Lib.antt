@@ -1,3 +1,9 @@
+pub mod Tests
+pub mod Same
+pub mod WellTyped
+mod Samples
 mod Rows
-mod WellFormedRows
 mod RuleRows
+mod WellFormedRows
+mod PlaceRows
+mod TextRows

@@ -1,13 +1,25 @@
 -- Worked rows of the core: rooms, nodes, joins, and the walk along two places.
 use Rattle.std.proofs.Common.{◌≡◌, ℕ, true, false, List, [], ◌∷◌, map, Some, None, refl}
-use Rattle.std.specs.Prelude.{pos, neg_ℤ}
+use Rattle.std.specs.Prelude.{pos}
 use Rattle.tu_base.specs.Shapes.{all_words}
-use Rattle.tu_base.specs.declared.shape.Span.{Span}
 use Rattle.tu_base.specs.declared.shape.Shape.{Shape}
 use Rattle.tu_base.specs.declared.shape.Shape.TheVariants.{Scalar as scalar_shape, Array as array_shape}
 use Rattle.tu_base.specs.declared.operator.Relation.TheVariants.{Greater}
 use Rattle.tu_base.specs.declared.operator.Binary.TheVariants.{Add, Subtract, Compare}
-use Rattle.tu_core.specs.Core.{At, Global, Local, Target, TakesScalar, Most, TakesText, AtName, Scalar, Literal, Use, Chain, NoLink, Link, Text, Written, Joined, Repeat, NoText, AndText, Cut, NoCut, CutPart, Exactly, BeforeLast, Path, Name, OpenItem, Element, Selectors, End, Field, Item, NoSubscript, Subscript, Open, Calls, Actuals, NoActual, Given, Lent, AScalar, UsePointer, FromTo, Assign, Do, Simply, If, Loop, For, Begin, Statement, Block, Empty, Then, Declare, Bind, Variables, Else, Formal, ByValue, ByVar, ByCopy, LocalName, Declared, Counter, Caught, NoHandler, Handles, Nothing, Routine, Program}
+use Rattle.tu_core.specs.declared.names.At.{At}
+use Rattle.tu_core.specs.declared.names.Variable.TheVariants.{Global, Local}
+use Rattle.tu_core.specs.declared.names.LocalName.{LocalName}
+use Rattle.tu_core.specs.declared.names.LocalName.TheVariants.{Declared, Counter, Caught}
+use Rattle.tu_core.specs.declared.names.Formal.{Formal}
+use Rattle.tu_core.specs.declared.names.Formal.TheVariants.{ByValue, ByVar, ByCopy}
+use Rattle.tu_core.specs.declared.names.PlaceKind.TheVariants.{OfShape, AnyText}
+use Rattle.tu_core.specs.declared.names.CallResult.TheVariants.{Nothing}
+use Rattle.tu_core.specs.declared.targets.Index.TheVariants.{Open}
+use Rattle.tu_core.specs.declared.targets.Size.TheVariants.{Most, AtName}
+use Rattle.tu_core.specs.declared.targets.Target.{Target}
+use Rattle.tu_core.specs.declared.targets.Target.TheVariants.{TakesScalar, TakesText}
+use Rattle.tu_core.specs.Targets.{ints}
+use Rattle.tu_core.specs.Core.{Scalar, Literal, Use, Chain, NoLink, Link, Text, Written, Joined, Repeat, NoText, AndText, Cut, NoCut, CutPart, Exactly, BeforeLast, Path, Name, OpenItem, Element, Selectors, End, Field, Item, NoSubscript, Subscript, Calls, Actuals, NoActual, Given, Lent, AScalar, UsePointer, FromTo, Assign, Do, Simply, If, Loop, For, Begin, Statement, Block, Empty, Then, Declare, Bind, Variables, Else, NoHandler, Handles, Routine, Program}
 use Rattle.tu_core.specs.Measures.{of_text}
 use Rattle.tu_core.specs.Nodes.{nodes}
 use Rattle.tu_core.specs.Rooms.{joins, room_of, main_room, results, formal_words}
@@ -15,9 +27,6 @@ use Rattle.tu_core.specs.Walk.{AtElements, AtStep, Apart, Same, Maybe, walk, pai
 
 abbrev on : (line : ℕ) → At
 on n = record { start = 0; line = n }
-
-abbrev ints : Span
-ints = record { low = neg_ℤ (pos 2147483647); high = pos 2147483647 }
 
 abbrev an_int : Target
 an_int = TakesScalar ints
@@ -53,10 +62,10 @@ abbrev is_greater : Scalar → Scalar → Scalar
 is_greater a b = Chain 0 a (Link (Compare Greater) b NoLink)
 
 abbrev procedure : List Formal → List LocalName → Block → Routine
-procedure formals locals body = record { gives = Nothing; is_invariant = false; result = None; formals = formals; stars = 0; locals = locals; temporaries = []; before = Empty; body = body; handler = NoHandler; after = Empty; end_line = 9; fixed = []; fixed_collections = [] }
+procedure formals locals body = record { gives = Nothing; is_invariant = false; result = None; formals = formals; stars = 0; locals = locals; before = Empty; body = body; handler = NoHandler; after = Empty; end_line = 9; fixed = []; fixed_collections = [] }
 
 abbrev program : List LocalName → List Routine → Block → Program
-program locals routines main = record { shapes = shapes; globals = []; collections = []; routines = routines; locals = locals; temporaries = []; main = main }
+program locals routines main = record { shapes = shapes; globals = []; collections = []; routines = routines; locals = locals; main = main }
 
 abbrev room : Routine → ℕ
 room r = room_of shapes (all_words shapes) (r ∷ []) r
@@ -88,13 +97,13 @@ room_of_main = refl
 --   end if
 -- end r
 -- 64 + 2 + 1 + 12 * 14: the assignment 5, `if` 4, the call 5
-room_of_reference : room (procedure (ByVar (on 1) ∷ (ByValue an_int ∷ [])) []
+room_of_reference : room (procedure (ByVar (on 1) (OfShape 1) ∷ (ByValue an_int ∷ [])) []
     (Then (set 2 (Name (on 2) (Local 0) (Item 1 (Subscript (Some (pos 1)) (int 1) NoSubscript) End)) (number (local 1)))
     (Then (If (on 3) (is_greater (number (local 1)) (int 1)) (Then (call 4 0 (Lent (on 4) true (Some []) (local 0) (Given (on 4) None (AScalar (less (number (local 1)) (int 1))) NoActual))) Empty) (Else Empty)) Empty))) ≡ 235
 room_of_reference = refl
 
 -- the words of formals: an int, `string (*)`, `string (5)`, a structured constant, `var`
-words_of_formals : map formal_words (ByValue an_int ∷ (ByValue (TakesText AtName) ∷ (ByValue (TakesText (Most 5)) ∷ (ByCopy 1 ∷ (ByVar (on 0) ∷ []))))) ≡ 1 ∷ (65 ∷ (3 ∷ (2 ∷ (2 ∷ []))))
+words_of_formals : map formal_words (ByValue an_int ∷ (ByValue (TakesText AtName) ∷ (ByValue (TakesText (Most 5)) ∷ (ByCopy (OfShape 1) ∷ (ByVar (on 0) AnyText ∷ []))))) ≡ 1 ∷ (65 ∷ (3 ∷ (2 ∷ (2 ∷ []))))
 words_of_formals = refl
 
 -- var t : int
@@ -109,7 +118,7 @@ joins_summing : joins (0 ∷ (1 ∷ [])) summing ≡ 1
 joins_summing = refl
 
 -- in a procedure: 64, two locals, 12 for each of 9 nodes (the name t, `for` and its bounds, the assignment 5) and for the one join
-room_summing : room (procedure [] (Declared 0 ∷ (Counter ∷ [])) (Declare (on 1) (Variables (Local 0 ∷ []) 0) (Then summing Empty))) ≡ 186
+room_summing : room (procedure [] (Declared 0 ∷ (Counter ints ∷ [])) (Declare (on 1) (Variables (Local 0 ∷ []) 0) (Then summing Empty))) ≡ 186
 room_summing = refl
 
 -- begin

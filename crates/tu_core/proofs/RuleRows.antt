@@ -3,16 +3,26 @@ use Rattle.std.proofs.Common.{◌≡◌, ℕ, zero, suc, Bool, true, false, List
 use Rattle.std.specs.List.{Contains, list_any}
 use Rattle.tu_base.specs.declared.shape.Span.{Span}
 use Rattle.tu_base.specs.declared.shape.Shape.TheVariants.{Scalar as scalar_shape, Array as array_shape}
-use Rattle.tu_core.specs.Core.{At, Global, Local, Target, TakesScalar, Scalar, Literal, Use, Path, Name, End, Calls, Actuals, NoActual, Lent, AScalar, Assign, Do, Simply, Begin, Statement, Block, Empty, Then, Bind, Formal, ByCopy, ByVar, BoundName, NoHandler, Result, Nothing, OneValue, Routine, Program, GlobalOf}
+use Rattle.tu_core.specs.Core.{Scalar, Literal, Use, Path, Name, End, Calls, Actuals, NoActual, Lent, AScalar, Assign, Do, Simply, Begin, Statement, Block, Empty, Then, Bind, NoHandler, Routine, Program}
+use Rattle.tu_core.specs.declared.names.At.{At}
+use Rattle.tu_core.specs.declared.names.Variable.TheVariants.{Global, Local}
+use Rattle.tu_core.specs.declared.targets.Target.{Target}
+use Rattle.tu_core.specs.declared.targets.Target.TheVariants.{TakesScalar}
+use Rattle.tu_core.specs.declared.names.Formal.{Formal}
+use Rattle.tu_core.specs.declared.names.Formal.TheVariants.{ByCopy, ByVar}
+use Rattle.tu_core.specs.declared.names.LocalName.TheVariants.{BoundName}
+use Rattle.tu_core.specs.declared.names.PlaceKind.TheVariants.{OfShape}
+use Rattle.tu_core.specs.declared.names.CallResult.{CallResult}
+use Rattle.tu_core.specs.declared.names.CallResult.TheVariants.{Nothing, OneValue}
+use Rattle.tu_core.specs.declared.names.GlobalName.TheVariants.{GlobalOf}
 use Rattle.tu_core.specs.Acts.{AVariable, Act, Reading, Changing, Calling, main_acts, routine_acts}
 use Rattle.tu_core.specs.Walk.{Apart, Same}
 use Rattle.tu_core.specs.Effects.{Leads, here, step, CallsOne, Reads, Writes, Among, tails, acts_of, texts_of, FunctionVar, FunctionWrites, IsVarFormal, ChangesOutside, is_function}
 use Rattle.tu_core.specs.Overlap.{SharedOf, ImportedOf, HiddenIn, ChangedIn, IsHidden, IsChanged, SharedActual, ImportedActual, HiddenRoot, ChangedBound}
-use Rattle.std.specs.Prelude.{slice_get}
-use Rattle.tu_core.specs.Effects.{changes}
-use Rattle.tu_core.specs.WellFormed.{is_well_formed, names_of, main_names}
-use Rattle.tu_core.specs.Typed.{known_in, ActIsTyped, KeepsBound, TextIsTyped, IsTyped}
+use Rattle.tu_core.specs.WellFormed.{is_well_formed}
+use Rattle.tu_core.specs.Typed.{IsTyped}
 use Rattle.tu_core.specs.Rules.{KeepsTheRules}
+use Rattle.tu_core.proofs.WellTyped.{well_formed_is_typed}
 
 abbrev on : (line : ℕ) → At
 on n = record { start = 0; line = n }
@@ -47,12 +57,12 @@ shared n p more = Lent (on n) false (Some []) p more
 abbrev only : Statement → Block
 only s = Then s Empty
 
-abbrev routine : Result → List Formal → Block → Routine
-routine gives formals body = record { gives = gives; is_invariant = false; result = None; formals = formals; stars = 0; locals = []; temporaries = []; before = Empty; body = body; handler = NoHandler; after = Empty; end_line = 9; fixed = []; fixed_collections = [] }
+abbrev routine : CallResult → List Formal → Block → Routine
+routine gives formals body = record { gives = gives; is_invariant = false; result = None; formals = formals; stars = 0; locals = []; before = Empty; body = body; handler = NoHandler; after = Empty; end_line = 9; fixed = []; fixed_collections = [] }
 
 -- two ints a and b, an array c, a subprogram, and two names of `bind`
 abbrev program : Routine → Block → Program
-program r main = record { shapes = scalar_shape digit ∷ (array_shape (digit ∷ []) 0 ∷ []); globals = map GlobalOf (0 ∷ (0 ∷ (1 ∷ []))); collections = []; routines = r ∷ []; locals = BoundName true ∷ (BoundName true ∷ []); temporaries = []; main = main }
+program r main = record { shapes = scalar_shape digit ∷ (array_shape (digit ∷ []) 0 ∷ []); globals = map GlobalOf (0 ∷ (0 ∷ (1 ∷ []))); collections = []; routines = r ∷ []; locals = BoundName 0 ∷ (BoundName 0 ∷ []); main = main }
 
 -- what holds of each of a list
 infixr 10 ◌▹◌
@@ -84,7 +94,7 @@ not_false e = absurd (let q : false ≡ true = e in cc)
 --   a := y
 -- end
 abbrev swap : Routine
-swap = routine Nothing (ByVar (on 1) ∷ (ByVar (on 1) ∷ [])) (only (set 2 (local 2 0) (number (local 2 1))))
+swap = routine Nothing (ByVar (on 1) (OfShape 0) ∷ (ByVar (on 1) (OfShape 0) ∷ [])) (only (set 2 (local 2 0) (number (local 2 1))))
 
 abbrev kept : Program
 kept = program swap
@@ -138,45 +148,21 @@ row_formed : is_well_formed kept ≡ true
 row_formed = refl
 
 row_typed : IsTyped kept
-row_typed = record {
-  globals = λ x. None;
-  locals = λ n x. None;
-  main = record {
-    each = each_has (ActIsTyped (main_names kept) false (known_in (λ x. None) (λ x. None))) (main_acts kept)
-        (refl ▹ refl ▹ (λ e. refl, tt, (λ e. tt, tt), (λ e. refl, tt, tt, tt)) ▹ refl ▹ (refl, λ e. other 0 0 e) ▹ (refl, refl) ▹ tt ▹ tt ▹ (refl, λ e. other 1 1 e) ▹ refl ▹ tt ▹ ends);
-    bound = each_has (KeepsBound (main_names kept) false (known_in (λ x. None) (λ x. None))) (tails (main_acts kept)) (tt ▹ tt ▹ tt ▹ tt ▹ tt ▹ tt ▹ tt ▹ tt ▹ each_has (λ act. changes (AVariable (Local 1)) act ≡ false) _ (refl ▹ refl ▹ ends) ▹ tt ▹ tt ▹ ends);
-    declared = λ x some. absurd (some refl);
-  };
-  routines = texts;
-}
-  where
-    other : (x y : ℕ) → Some (AVariable (Global x)) ≡ Some (AVariable (Local y)) → ⊥
-    other x y e = let h : Some (AVariable (Global x)) ≡ Some (AVariable (Local y)) = e in cc
-
-    texts : (n : ℕ) (r : Routine) → slice_get kept.routines n ≡ Some r → TextIsTyped (names_of kept r Nothing false) true (known_in (λ x. None) (λ x. None)) (routine_acts r)
-    texts zero r e = subst (λ q. TextIsTyped (names_of kept q Nothing false) true (known_in (λ x. None) (λ x. None)) (routine_acts q)) (one e) record {
-      each = each_has (ActIsTyped (names_of kept swap Nothing false) true (known_in (λ x. None) (λ x. None))) (routine_acts swap) (tt ▹ (refl, refl) ▹ tt ▹ ends);
-      bound = each_has (KeepsBound (names_of kept swap Nothing false) true (known_in (λ x. None) (λ x. None))) (tails (routine_acts swap)) (tt ▹ tt ▹ tt ▹ ends);
-      declared = λ x some. absurd (some refl);
-    }
-      where
-        one : Some swap ≡ Some r → swap ≡ r
-        one e = cc
-    texts (suc n) r e = absurd (let h : None ≡ Some r = e in cc)
+row_typed = well_formed_is_typed kept row_formed
 
 -- swap (a, a): the later actual
-row_shared : SharedActual (program (routine Nothing (ByVar (on 1) ∷ (ByVar (on 1) ∷ [])) Empty) (only (call 4 0 (lent 5 (global 4 0) (lent 6 (global 4 0) NoActual))))) (on 6)
+row_shared : SharedActual (program (routine Nothing (ByVar (on 1) (OfShape 0) ∷ (ByVar (on 1) (OfShape 0) ∷ [])) Empty) (only (call 4 0 (lent 5 (global 4 0) (lent 6 (global 4 0) NoActual))))) (on 6)
 row_shared = (_, (0, omega arith, refl), (_, (2, omega arith, refl), inl (inl (refl, refl, refl))))
 
 -- procedure p (var x : int)
 --   x := a
 -- end p
 -- p (a)
-row_imported : ImportedActual (program (routine Nothing (ByVar (on 1) ∷ []) (only (set 2 (local 2 0) (number (global 2 0))))) (only (call 4 0 (lent 5 (global 4 0) NoActual)))) (on 5)
+row_imported : ImportedActual (program (routine Nothing (ByVar (on 1) (OfShape 0) ∷ []) (only (set 2 (local 2 0) (number (global 2 0))))) (only (call 4 0 (lent 5 (global 4 0) NoActual)))) (on 5)
 row_imported = (_, (0, omega arith, refl), (_, (1, omega arith, refl), inl (inl (refl, (0, here, refl)), refl)))
 
 -- a procedure that changes c, and to which c is lent as a constant
-row_imported_constant : ImportedActual (program (routine Nothing (ByCopy 1 ∷ []) (only (set 2 (global 2 2) (Literal 0 (pos 1))))) (only (call 4 0 (shared 5 (global 4 2) NoActual)))) (on 5)
+row_imported_constant : ImportedActual (program (routine Nothing (ByCopy (OfShape 1) ∷ []) (only (set 2 (global 2 2) (Literal 0 (pos 1))))) (only (call 4 0 (shared 5 (global 4 2) NoActual)))) (on 5)
 row_imported_constant = (_, (0, omega arith, refl), (_, (1, omega arith, refl), inl ((refl, (0, here, refl)), refl)))
 
 -- bind var x to a, and in its scope b := a
@@ -191,5 +177,5 @@ row_changed = (_, (0, omega arith, refl), (_, (1, omega arith, refl), (_, (0, om
 row_function_writes : FunctionWrites (program (routine (OneValue a_digit) [] (only (set 2 (global 3 0) (Literal 0 (pos 1))))) Empty) (on 3)
 row_function_writes = (_, (0, omega arith, refl), (refl, (_, (1, omega arith, refl), (refl, refl))))
 
-row_function_var : FunctionVar (program (routine (OneValue a_digit) (ByVar (on 3) ∷ []) Empty) Empty) (on 3)
+row_function_var : FunctionVar (program (routine (OneValue a_digit) (ByVar (on 3) (OfShape 0) ∷ []) Empty) Empty) (on 3)
 row_function_var = (_, (0, omega arith, refl), (refl, (_, (0, omega arith, refl), refl)))

@@ -10,35 +10,16 @@ use Rattle.tu_base.specs.declared.operator.Binary.{Binary}
 use Rattle.tu_base.specs.declared.operator.Junction.{Junction}
 use Rattle.tu_base.specs.declared.operator.Combination.{Combination}
 use Rattle.tu_base.specs.Sets.{Base}
-
--- Where the first token of a form stands: its byte and its line. Of `nil (C)`, of an element `C (p)` and of a type that names C it is the
--- token of C.
-pub record At : Type 0 where
-  pub start : ℕ
-  pub line : ℕ
-
--- A name by its number: one of the program and its modules, or one of the text that runs. Of a subprogram the formals come first among the
--- locals; of the main program only `for` indices and names of `bind` are locals. Two names have two numbers, also where one hides the other.
-pub data Variable : Type 0 where
-  Global : ℕ → Variable
-  Local : ℕ → Variable
-
--- An index of an array with run-time bounds: one whose bounds are known, or one whose upper bound stands at the name.
-pub data Index : Type 0 where
-  Known : Span → Index
-  Open : (low : ℤ) → Index
-
--- how long a text may be: so many bytes, or as the name of its root says, which is a formal `string (*)`
-pub data Size : Type 0 where
-  Most : ℕ → Size
-  AtName : Size
-
--- what a place without parts takes
-pub data Target : Type 0 where
-  TakesScalar : Span → Target
-  TakesText : Size → Target
-  TakesSet : Base → Target
-  TakesPointer : (collection : ℕ) → Target
+use Rattle.tu_core.specs.declared.names.At.{At}
+use Rattle.tu_core.specs.declared.names.Variable.{Variable}
+use Rattle.tu_core.specs.declared.names.GlobalName.{GlobalName}
+use Rattle.tu_core.specs.declared.names.LocalName.{LocalName}
+use Rattle.tu_core.specs.declared.names.Formal.{Formal}
+use Rattle.tu_core.specs.declared.names.CallResult.{CallResult}
+use Rattle.tu_core.specs.declared.targets.Index.{Index}
+use Rattle.tu_core.specs.declared.targets.Size.{Size}
+use Rattle.tu_core.specs.declared.targets.Target.{Target}
+use Rattle.tu_core.specs.declared.claim.Claim.{Claim}
 
 -- Expressions have a number each, by which code and tools name them. A place, a text, a set and a chain of operators are no deeper than
 -- their text: what stands in a row is a list.
@@ -137,8 +118,8 @@ mutual
     OpenItem : At → Variable → List Index → Subscripts → Selectors → Path
     -- the element of a collection that a pointer names
     Element : At → (collection : ℕ) → Pointer → Selectors → Path
-    -- the structured result of a call, in a temporary of the text
-    ResultOf : At → (temporary : ℕ) → Call → Selectors → Path
+    -- the structured result of a call, in a temporary of the text by its number
+    ResultOf : At → (number : ℕ) → Call → Selectors → Path
 
   -- each with the shape that it selects from
   pub data Selectors : Type 0 where
@@ -204,13 +185,6 @@ pub data Taken : Type 0 where
   TakeToken : Size → Path → Taken → Taken
   TakeLine : Size → Path → Taken → Taken
   TakeCount : Size → Path → Scalar → Taken → Taken
-
--- what is tested, and raises an exception of its own where it is false
-pub data Claim : Type 0 where
-  Asserts : Claim
-  Requires : Claim
-  Ensures : Claim
-  Keeps : Claim
 
 -- an `assert`, a `pre`, a `post` or an invariant
 pub record Test : Type 0 where
@@ -291,47 +265,14 @@ mutual
     Default : Block → Arms
     Labelled : (labels : List ℤ) → Block → Arms → Arms
 
--- how a formal receives its actual
-pub data Formal : Type 0 where
-  -- a value without parts
-  ByValue : Target → Formal
-  -- a place of a shape; a `var` formal has the start and line of its `var`
-  ByCopy : (shape : ℕ) → Formal
-  ByVar : At → Formal
-
--- what a local that is no formal is
-pub data LocalName : Type 0 where
-  Declared : (shape : ℕ) → LocalName
-  -- an array with run-time bounds
-  DeclaredArray : List Index → (component : ℕ) → LocalName
-  -- a name of `bind`, of a place without parts that is one of a scalar or not
-  BoundName : (is_scalar : Bool) → LocalName
-  -- an index of `for`
-  Counter : LocalName
-  -- the name of a handler
-  Caught : LocalName
-  -- the result's name in `post`
-  ResultName : LocalName
-
--- what a global is
-pub data GlobalName : Type 0 where
-  GlobalOf : (shape : ℕ) → GlobalName
-  GlobalArray : List Index → (component : ℕ) → GlobalName
-
 -- what takes the exceptions of a body: the exception's number stands in a local
 pub data Handler : Type 0 where
   NoHandler : Handler
   Handles : At → (name : ℕ) → Block → Handler
 
--- what a call gives
-pub data Result : Type 0 where
-  Nothing : Result
-  OneValue : Target → Result
-  OnePlace : (shape : ℕ) → Result
-
 -- a subprogram, or the invariant of a module, whose body tests its clause
 pub record Routine : Type 0 where
-  pub gives : Result
+  pub gives : CallResult
   -- whether it is an invariant, which gives nothing back; the truth value that it finds is a word of its room
   pub is_invariant : Bool
   -- the local that stands for the result in `post`
@@ -341,8 +282,6 @@ pub record Routine : Type 0 where
   pub stars : ℕ
   -- the locals behind the formals, by their numbers from there on
   pub locals : List LocalName
-  -- the shapes of its temporaries
-  pub temporaries : List ℕ
   -- `pre` and `init`, the body, and `post`
   pub before : Block
   pub body : Block
@@ -361,5 +300,4 @@ pub record Program : Type 0 where
   pub collections : List ℕ
   pub routines : List Routine
   pub locals : List LocalName
-  pub temporaries : List ℕ
   pub main : Block

@@ -1,9 +1,13 @@
 -- What a routine reads and changes, itself or by the routines that it calls, and the faults of effects, each with its places.
 use Rattle.std.specs.Prelude.{◌≡◌, ℕ, ◌==◌, Bool, true, false, not, ◌||◌, List, [], ◌∷◌, map, take, option_to_list, slice_get, Some, None}
 use Rattle.std.specs.List.{Contains, flat_map, list_any}
-use Rattle.tu_core.specs.Core.{At, Global, Local, Call, Calls, Formal, ByValue, ByCopy, ByVar, Routine, Program}
+use Rattle.tu_core.specs.Core.{Call, Calls, Routine, Program}
+use Rattle.tu_core.specs.declared.names.At.{At}
+use Rattle.tu_core.specs.declared.names.Variable.TheVariants.{Global, Local}
+use Rattle.tu_core.specs.declared.names.Formal.{Formal}
+use Rattle.tu_core.specs.declared.names.Formal.TheVariants.{ByValue, ByCopy, ByVar}
 use Rattle.tu_core.specs.Rooms.{is_same}
-use Rattle.tu_core.specs.WellFormed.{gives_nothing}
+use Rattle.tu_core.specs.Places.{gives_nothing}
 use Rattle.tu_core.specs.Acts.{Subject, AVariable, ACollection, Act, Reading, Changing, Talking, Calling, Declaring, Defining, Fixing, routine_acts, main_acts}
 
 abbrev pub is_one : Subject → Subject → Bool
@@ -104,8 +108,8 @@ TalksOutside program act at = ⊥
 
 abbrev pub IsVarFormal : Formal → At → Type 0
 IsVarFormal (ByValue target) at = ⊥
-IsVarFormal (ByCopy shape) at = ⊥
-IsVarFormal (ByVar place) at = at ≡ place
+IsVarFormal (ByCopy kind) at = ⊥
+IsVarFormal (ByVar place kind) at = at ≡ place
 
 -- `var` among the formals of a function
 abbrev pub FunctionVar : Program → At → Type 0

@@ -1,7 +1,8 @@
 -- When two places overlap, and the faults of overlap, each with its places.
 use Rattle.std.specs.Prelude.{◌≡◌, ◌⊎◌, ℕ, Bool, true, false, List, take, Some, None}
 use Rattle.std.specs.List.{Contains}
-use Rattle.tu_core.specs.Core.{At, Path, Call, Calls, Actuals, NoActual, Given, Lent, Program}
+use Rattle.tu_core.specs.Core.{Path, Call, Calls, Actuals, NoActual, Given, Lent, Program}
+use Rattle.tu_core.specs.declared.names.At.{At}
 use Rattle.tu_core.specs.Walk.{Same, walk}
 use Rattle.tu_core.specs.Acts.{Subject, AVariable, subject_of, Act, Reading, Changing, Naming, Calling, Binding, Declaring, Defining}
 use Rattle.tu_core.specs.Effects.{is_one, called_by, Reads, Writes, Among, tails, texts_of}

@@ -1,64 +1,48 @@
--- What stands at the places of a text, as far as its names tell: a shape, a value of a sort, or a place elsewhere.
-use Rattle.std.specs.Prelude.{ℕ, zero, suc, ◌-◌, ◌==◌, Bool, true, false, not, ◌||◌, List, [], ◌∷◌, ◌++◌, length, slice_get, is_some, nat_lt, Option, Some, None, if◌then◌else◌}
+-- What stands at the places of a text, and which of them can be lent or bound.
+use Rattle.std.specs.Prelude.{ℕ, zero, suc, ◌-◌, ◌==◌, Bool, true, false, not, ◌&&◌, List, [], ◌∷◌, ◌++◌, length, slice_get, is_some, is_none, nat_lt, Option, Some, None, ℤ, pos, if◌then◌else◌}
 use Rattle.tu_base.specs.declared.shape.Variant.{Variant}
 use Rattle.tu_base.specs.declared.shape.Shape.{Shape}
-use Rattle.tu_base.specs.declared.shape.Shape.TheVariants.{Scalar as scalar_shape, Text as text_shape, Set as set_shape, Pointer as pointer_shape, Array as array_shape, Record as record_shape, Union as union_shape}
-use Rattle.tu_core.specs.Core.{Variable, Global, Local, Target, TakesScalar, TakesText, TakesSet, TakesPointer, Path, Name, OpenItem, Element, ResultOf, Selectors, End, Field, VariantField, Item, Subscripts, NoSubscript, Subscript, Formal, ByValue, ByCopy, ByVar, LocalName, Declared, DeclaredArray, BoundName, Counter, Caught, ResultName, GlobalName, GlobalOf, GlobalArray, Result, Nothing, OneValue, OnePlace, Program}
-
--- the sorts of values; a value of parts is that of an array, a record or a union
-pub data Sort : Type 0 where
-  OfScalar : Sort
-  OfText : Sort
-  OfSet : Sort
-  OfPointer : Sort
-  OfParts : Sort
-
-abbrev pub sort_number : Sort → ℕ
-sort_number OfScalar = 0
-sort_number OfText = 1
-sort_number OfSet = 2
-sort_number OfPointer = 3
-sort_number OfParts = 4
-
-abbrev pub are_one_sort : Sort → Sort → Bool
-are_one_sort a b = sort_number a == sort_number b
-
-abbrev pub shape_sort : Shape → Sort
-shape_sort (scalar_shape s) = OfScalar
-shape_sort (text_shape most) = OfText
-shape_sort (set_shape low members) = OfSet
-shape_sort (pointer_shape c) = OfPointer
-shape_sort (array_shape indexes component) = OfParts
-shape_sort (record_shape fields) = OfParts
-shape_sort (union_shape tag variants) = OfParts
-
-abbrev pub target_sort : Target → Sort
-target_sort (TakesScalar s) = OfScalar
-target_sort (TakesText size) = OfText
-target_sort (TakesSet base) = OfSet
-target_sort (TakesPointer c) = OfPointer
+use Rattle.tu_base.specs.declared.shape.Shape.TheVariants.{Array as array_shape, Record as record_shape, Union as union_shape}
+use Rattle.tu_core.specs.declared.names.Variable.{Variable}
+use Rattle.tu_core.specs.declared.names.Variable.TheVariants.{Global, Local}
+use Rattle.tu_core.specs.declared.names.GlobalName.{GlobalName}
+use Rattle.tu_core.specs.declared.names.GlobalName.TheVariants.{GlobalOf, GlobalArray}
+use Rattle.tu_core.specs.declared.names.LocalName.{LocalName}
+use Rattle.tu_core.specs.declared.names.LocalName.TheVariants.{Declared, DeclaredArray, BoundName, BoundText, BoundArray, Counter, Caught, ResultName}
+use Rattle.tu_core.specs.declared.names.PlaceKind.{PlaceKind}
+use Rattle.tu_core.specs.declared.names.PlaceKind.TheVariants.{OfShape, AnyText, AnyArray}
+use Rattle.tu_core.specs.declared.names.Formal.{Formal}
+use Rattle.tu_core.specs.declared.names.Formal.TheVariants.{ByValue, ByCopy, ByVar}
+use Rattle.tu_core.specs.declared.names.CallResult.{CallResult}
+use Rattle.tu_core.specs.declared.names.CallResult.TheVariants.{Nothing, OneValue, OnePlace}
+use Rattle.tu_core.specs.declared.targets.Index.{Index}
+use Rattle.tu_core.specs.declared.targets.Size.TheVariants.{Most, AtName}
+use Rattle.tu_core.specs.declared.targets.Target.{Target}
+use Rattle.tu_core.specs.declared.targets.Target.TheVariants.{TakesScalar, TakesText}
+use Rattle.tu_core.specs.Targets.{ints, is_same_target, shape_target, are_same_indexes, take_spans, upper_bounds, known_indexes, are_numbers}
+use Rattle.tu_core.specs.Core.{Path, Name, OpenItem, Element, ResultOf, Selectors, End, Field, VariantField, Item, Subscripts, NoSubscript, Subscript, Call, Calls, Routine, Program}
 
 -- what stands at a place, as far as the text tells
 pub data Stands : Type 0 where
   NoPlace : Stands
+  -- a value of a shape, by its number
   Shaped : (shape : ℕ) → Stands
-  -- a value without parts
-  Sorted : Sort → Stands
-  -- an array with run-time bounds
-  OpenArray : (dimensions component : ℕ) → Stands
-  -- What a `var` formal or a name of `bind` stands for has the shape of a place elsewhere. A scalar may be there or not.
-  Elsewhere : (may_be_scalar : Bool) → Stands
+  -- a value without parts, at a name that has no shape of its own
+  Takes : Target → Stands
+  -- an array whose open bounds stand at its name
+  OpenArray : List Index → (component : ℕ) → Stands
 
 -- the names of a text, and what may stand in it
 pub record Names : Type 0 where
   pub program : Program
   pub formals : List Formal
   pub locals : List LocalName
-  pub temporaries : List ℕ
   -- what stands at the result's name
-  pub gives : Result
+  pub gives : CallResult
   -- what a statement `result` may give
-  pub may_give : Result
+  pub may_give : CallResult
+  -- whether a statement `return` may stand there
+  pub may_return : Bool
   -- whether it is a handler's block
   pub in_handler : Bool
 
@@ -66,27 +50,39 @@ abbrev pub has_some : {A : Type 0} → (A → Bool) → Option A → Bool
 has_some test None = false
 has_some test (Some a) = test a
 
+-- Those of the main program, which gives nothing back and is not left by `return`.
+abbrev pub main_names : Program → Names
+main_names p = record { program = p; formals = []; locals = p.locals; gives = Nothing; may_give = Nothing; may_return = false; in_handler = false }
+
+-- those of a routine, in blocks that give this
+abbrev pub names_of : Program → Routine → (may_give : CallResult) → (in_handler : Bool) → Names
+names_of p r may_give in_handler = record { program = p; formals = r.formals; locals = r.locals; gives = r.gives; may_give = may_give; may_return = false; in_handler = in_handler }
+
+abbrev pub gives_nothing : CallResult → Bool
+gives_nothing Nothing = true
+gives_nothing (OneValue target) = false
+gives_nothing (OnePlace n) = false
+
+-- Those of the body of a routine, or of its handler's block. These alone give a result, and those of a procedure alone are left by `return`.
+abbrev pub body_names : Program → Routine → (in_handler : Bool) → Names
+body_names p r in_handler = record { program = p; formals = r.formals; locals = r.locals; gives = r.gives; may_give = r.gives; may_return = gives_nothing r.gives && not r.is_invariant; in_handler = in_handler }
+
 -- whether there is an item with a number
 abbrev pub is_there : {A : Type 0} → List A → ℕ → Bool
 is_there xs n = is_some (slice_get xs n)
 
-abbrev pub is_shape_of : Sort → Shape → Bool
-is_shape_of sort s = are_one_sort (shape_sort s) sort
-
 abbrev pub is_place : Stands → Bool
 is_place NoPlace = false
 is_place (Shaped n) = true
-is_place (Sorted sort) = true
-is_place (OpenArray dimensions component) = true
-is_place (Elsewhere may_be_scalar) = true
+is_place (Takes target) = true
+is_place (OpenArray indexes component) = true
 
--- whether a place of a shape, by its number, may stand there
+-- whether a value of a shape, by its number, stands there
 abbrev pub has_shape : ℕ → Stands → Bool
 has_shape n NoPlace = false
 has_shape n (Shaped m) = m == n
-has_shape n (Sorted sort) = false
-has_shape n (OpenArray dimensions component) = false
-has_shape n (Elsewhere may_be_scalar) = true
+has_shape n (Takes target) = false
+has_shape n (OpenArray indexes component) = false
 
 abbrev pub shaped : Option ℕ → Stands
 shaped None = NoPlace
@@ -115,25 +111,67 @@ abbrev pub count_subscripts : Subscripts → ℕ
 count_subscripts NoSubscript = 0
 count_subscripts (Subscript constant e more) = suc (count_subscripts more)
 
-abbrev pub result_stands : Result → Stands
+abbrev pub result_stands : CallResult → Stands
 result_stands Nothing = NoPlace
-result_stands (OneValue target) = Sorted (target_sort target)
+result_stands (OneValue target) = Takes target
 result_stands (OnePlace n) = Shaped n
 
+-- the structured result of a call
+abbrev pub place_given : CallResult → Stands
+place_given Nothing = NoPlace
+place_given (OneValue target) = NoPlace
+place_given (OnePlace n) = Shaped n
+
+-- what a call gives without parts
+abbrev pub value_given : CallResult → Option Target
+value_given Nothing = None
+value_given (OneValue target) = Some target
+value_given (OnePlace n) = None
+
+abbrev pub kind_stands : PlaceKind → Stands
+kind_stands (OfShape n) = Shaped n
+kind_stands AnyText = Takes (TakesText AtName)
+kind_stands (AnyArray indexes component) = OpenArray indexes component
+
 abbrev pub formal_stands : Formal → Stands
-formal_stands (ByValue target) = Sorted (target_sort target)
-formal_stands (ByCopy n) = Shaped n
-formal_stands (ByVar at) = Elsewhere true
+formal_stands (ByValue target) = Takes target
+formal_stands (ByCopy kind) = kind_stands kind
+formal_stands (ByVar at kind) = kind_stands kind
 
 abbrev pub global_stands : GlobalName → Stands
 global_stands (GlobalOf n) = Shaped n
-global_stands (GlobalArray indexes component) = OpenArray (length indexes) component
+global_stands (GlobalArray indexes component) = OpenArray indexes component
+
+-- the element of an array whose open bounds stand at its name
+abbrev pub open_item : List Index → Stands → Stands
+open_item indexes NoPlace = NoPlace
+open_item indexes (Shaped n) = NoPlace
+open_item indexes (Takes target) = NoPlace
+open_item indexes (OpenArray others component) = if are_same_indexes others indexes then Shaped component else NoPlace
+
+-- an open array of these indexes and this component
+abbrev pub is_open_array : List Index → (component : ℕ) → Stands → Bool
+is_open_array indexes m NoPlace = false
+is_open_array indexes m (Shaped n) = false
+is_open_array indexes m (Takes target) = false
+is_open_array indexes m (OpenArray others component) = are_same_indexes others indexes && (component == m)
 
 abbrev pub selectors_of : Path → Selectors
 selectors_of (Name at x steps) = steps
 selectors_of (OpenItem at x indexes es steps) = steps
 selectors_of (Element at c e steps) = steps
 selectors_of (ResultOf at k call steps) = steps
+
+-- the size of a text, which is known, or stands at the name
+abbrev pub is_sized : (bounds : Option (List ℤ)) → Target → Bool
+is_sized bounds (TakesText (Most most)) = has_some (are_numbers (pos most ∷ [])) bounds
+is_sized bounds (TakesText AtName) = is_none bounds
+is_sized bounds target = false
+
+-- an array of these indexes, which are known
+abbrev pub is_array_of : List Index → Shape → Bool
+is_array_of indexes (array_shape spans component) = are_same_indexes (known_indexes spans) indexes
+is_array_of indexes s = false
 
 -- In a text of these names.
 module _ (names : Names) where
@@ -148,11 +186,12 @@ module _ (names : Names) where
 
   abbrev pub local_stands : LocalName → Stands
   local_stands (Declared n) = Shaped n
-  local_stands (DeclaredArray indexes component) = OpenArray (length indexes) component
-  local_stands (BoundName true) = Sorted OfScalar
-  local_stands (BoundName false) = Elsewhere false
-  local_stands Counter = Sorted OfScalar
-  local_stands Caught = Sorted OfScalar
+  local_stands (DeclaredArray indexes component) = OpenArray indexes component
+  local_stands (BoundName n) = Shaped n
+  local_stands BoundText = Takes (TakesText AtName)
+  local_stands (BoundArray indexes component) = OpenArray indexes component
+  local_stands (Counter s) = Takes (TakesScalar s)
+  local_stands Caught = Takes (TakesScalar ints)
   local_stands ResultName = result_stands names.gives
 
   -- a local that is no formal
@@ -166,27 +205,12 @@ module _ (names : Names) where
   abbrev pub is_known : Variable → Bool
   is_known x = is_place (stands_at x)
 
-  -- whether a value of a sort may stand there
-  abbrev pub is_of : Sort → Stands → Bool
-  is_of sort NoPlace = false
-  is_of sort (Shaped n) = has_some (is_shape_of sort) (shape_at n)
-  is_of sort (Sorted other) = are_one_sort other sort
-  is_of sort (OpenArray dimensions component) = are_one_sort OfParts sort
-  is_of sort (Elsewhere may_be_scalar) = may_be_scalar || not (are_one_sort OfScalar sort)
-
-  -- the element of an array with run-time bounds, which is declared, or a formal, or bound
-  abbrev pub open_item : (dimensions : ℕ) → Stands → Stands
-  open_item n NoPlace = NoPlace
-  open_item n (Shaped m) = item_at (shape_at m) n
-  open_item n (Sorted sort) = NoPlace
-  open_item n (OpenArray dimensions component) = if dimensions == n then Shaped component else NoPlace
-  open_item n (Elsewhere may_be_scalar) = Elsewhere true
-
   abbrev pub element_of : (collection : ℕ) → Stands
   element_of c = shaped (slice_get names.program.collections c)
 
-  abbrev pub temporary : ℕ → Stands
-  temporary k = shaped (slice_get names.temporaries k)
+  -- the structured result that a call gives
+  abbrev pub call_stands : Call → Stands
+  call_stands (Calls at callee invariant actuals) = elim (slice_get names.program.routines callee) [ None ↦ NoPlace | Some r ↦ place_given r.gives ]
 
   -- where selectors lead to from a place
   abbrev pub stands_behind : Stands → Selectors → Stands
@@ -198,9 +222,53 @@ module _ (names : Names) where
   -- where the selectors of a path begin
   abbrev pub root_stands : Path → Stands
   root_stands (Name at x steps) = stands_at x
-  root_stands (OpenItem at x indexes es steps) = open_item (length indexes) (stands_at x)
+  root_stands (OpenItem at x indexes es steps) = open_item indexes (stands_at x)
   root_stands (Element at c e steps) = element_of c
-  root_stands (ResultOf at k call steps) = temporary k
+  root_stands (ResultOf at k call steps) = call_stands call
 
   abbrev pub path_stands : Path → Stands
   path_stands path = stands_behind (root_stands path) (selectors_of path)
+
+  -- what a place without parts takes
+  abbrev pub target_at : Stands → Option Target
+  target_at NoPlace = None
+  target_at (Shaped n) = elim (shape_at n) [ None ↦ None | Some s ↦ shape_target s ]
+  target_at (Takes target) = Some target
+  target_at (OpenArray indexes component) = None
+
+  -- a place that takes what passes a test
+  abbrev pub is_of : (Target → Bool) → Stands → Bool
+  is_of test s = has_some test (target_at s)
+
+  -- a place that takes exactly this
+  abbrev pub takes : Target → Stands → Bool
+  takes target s = is_of (is_same_target target) s
+
+  -- a place of a shape, or one without parts that takes what the shape takes
+  abbrev pub is_of_shape : ℕ → Stands → Bool
+  is_of_shape n NoPlace = false
+  is_of_shape n (Shaped m) = m == n
+  is_of_shape n (Takes target) = takes target (Shaped n)
+  is_of_shape n (OpenArray indexes component) = false
+
+  -- an array with bounds that take these
+  abbrev pub is_array : List Index → (component : ℕ) → (bounds : Option (List ℤ)) → Option Shape → Bool
+  is_array indexes m bounds (Some (array_shape spans component)) = (take_spans indexes spans && (component == m)) && has_some (are_numbers (upper_bounds indexes spans)) bounds
+  is_array indexes m bounds s = false
+
+  -- Whether what stands there can be lent or bound as a place of a kind, with these bounds. A place of a shape has none beside. The bounds of
+  -- an open array, and the size of a text, are known, or those at the name.
+  abbrev pub takes_place : PlaceKind → (bounds : Option (List ℤ)) → Stands → Bool
+  takes_place (OfShape n) bounds s = has_some (are_numbers []) bounds && is_of_shape n s
+  takes_place AnyText bounds s = is_of (is_sized bounds) s
+  takes_place (AnyArray indexes m) bounds NoPlace = false
+  takes_place (AnyArray indexes m) bounds (Shaped n) = is_array indexes m bounds (shape_at n)
+  takes_place (AnyArray indexes m) bounds (Takes target) = false
+  takes_place (AnyArray indexes m) bounds (OpenArray others component) = is_open_array indexes m (OpenArray others component) && is_none bounds
+
+  -- an array of these indexes
+  abbrev pub has_indexes : List Index → Stands → Bool
+  has_indexes indexes NoPlace = false
+  has_indexes indexes (Shaped n) = has_some (is_array_of indexes) (shape_at n)
+  has_indexes indexes (Takes target) = false
+  has_indexes indexes (OpenArray others component) = are_same_indexes others indexes

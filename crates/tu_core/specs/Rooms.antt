@@ -4,7 +4,20 @@ use Rattle.tu_base.specs.declared.limits.TheConstants.{MOST_TEXT_BYTES}
 use Rattle.tu_base.specs.declared.shape.Shape.{Shape}
 use Rattle.tu_base.specs.declared.shape.Shape.TheVariants.{Scalar as scalar_shape, Text as text_shape, Set as set_shape, Pointer as pointer_shape, Array as array_shape, Record as record_shape, Union as union_shape}
 use Rattle.tu_base.specs.Shapes.{text_words, set_words}
-use Rattle.tu_core.specs.Core.{Variable, Global, Local, Index, Size, Most, AtName, Target, TakesScalar, TakesText, TakesSet, TakesPointer, Text, Written, UseText, Joined, Cut, Character, IntText, Repeat, CallText, Set, SetOf, FullSet, UseSet, Combined, CallSet, Path, Name, OpenItem, Element, ResultOf, Call, Calls, Actuals, NoActual, Given, Lent, Taken, NoneTaken, TakeInt, TakeTruth, TakeToken, TakeLine, TakeCount, Plain, Assign, Copy, Exit, Return, Give, GiveCopy, Check, New, Free, Tag, Put, Get, OpenStream, Close, Do, Quit, Statement, Simply, If, Loop, For, Case, Begin, Module, Block, Formal, ByValue, ByCopy, ByVar, LocalName, Declared, DeclaredArray, BoundName, Counter, Caught, ResultName, Handler, NoHandler, Handles, Result, Nothing, OneValue, OnePlace, Routine, Program}
+use Rattle.tu_core.specs.declared.names.Variable.{Variable}
+use Rattle.tu_core.specs.declared.names.Variable.TheVariants.{Global, Local}
+use Rattle.tu_core.specs.declared.names.LocalName.{LocalName}
+use Rattle.tu_core.specs.declared.names.LocalName.TheVariants.{Declared, DeclaredArray, BoundName, BoundText, BoundArray, Counter, Caught, ResultName}
+use Rattle.tu_core.specs.declared.names.Formal.{Formal}
+use Rattle.tu_core.specs.declared.names.Formal.TheVariants.{ByValue, ByCopy, ByVar}
+use Rattle.tu_core.specs.declared.names.CallResult.{CallResult}
+use Rattle.tu_core.specs.declared.names.CallResult.TheVariants.{Nothing, OneValue, OnePlace}
+use Rattle.tu_core.specs.declared.targets.Index.{Index}
+use Rattle.tu_core.specs.declared.targets.Size.{Size}
+use Rattle.tu_core.specs.declared.targets.Size.TheVariants.{Most, AtName}
+use Rattle.tu_core.specs.declared.targets.Target.{Target}
+use Rattle.tu_core.specs.declared.targets.Target.TheVariants.{TakesScalar, TakesText, TakesSet, TakesPointer}
+use Rattle.tu_core.specs.Core.{Text, Written, UseText, Joined, Cut, Character, IntText, Repeat, CallText, Set, SetOf, FullSet, UseSet, Combined, CallSet, Path, Name, OpenItem, Element, ResultOf, Call, Calls, Actuals, NoActual, Given, Lent, Taken, NoneTaken, TakeInt, TakeTruth, TakeToken, TakeLine, TakeCount, Plain, Assign, Copy, Exit, Return, Give, GiveCopy, Check, New, Free, Tag, Put, Get, OpenStream, Close, Do, Quit, Statement, Simply, If, Loop, For, Case, Begin, Module, Block, Handler, NoHandler, Handles, Routine, Program}
 use Rattle.tu_core.specs.Measures.{Measure, of_statement, of_block}
 use Rattle.tu_core.specs.Nodes.{sums, nodes, text_count, cut_count, set_count}
 
@@ -114,8 +127,10 @@ is_scalar_at shapes n = elim (slice_get shapes n) [ None ↦ false | Some s ↦ 
 abbrev pub is_scalar_local : List Shape → LocalName → Bool
 is_scalar_local shapes (Declared shape) = is_scalar_at shapes shape
 is_scalar_local shapes (DeclaredArray indexes component) = false
-is_scalar_local shapes (BoundName is_scalar) = is_scalar
-is_scalar_local shapes Counter = false
+is_scalar_local shapes (BoundName shape) = is_scalar_at shapes shape
+is_scalar_local shapes BoundText = false
+is_scalar_local shapes (BoundArray indexes component) = false
+is_scalar_local shapes (Counter s) = false
 is_scalar_local shapes Caught = false
 is_scalar_local shapes ResultName = false
 
@@ -128,18 +143,20 @@ scalars_from shapes n (x ∷ more) = if is_scalar_local shapes x then n ∷ scal
 abbrev pub local_words : (words : List ℕ) → LocalName → ℕ
 local_words words (Declared shape) = slice_index words shape
 local_words words (DeclaredArray indexes component) = open_words indexes
-local_words words (BoundName is_scalar) = 2
-local_words words Counter = 1
+local_words words (BoundName shape) = 2
+local_words words BoundText = 2
+local_words words (BoundArray indexes component) = 2
+local_words words (Counter s) = 1
 local_words words Caught = 1
 local_words words ResultName = 0
 
 -- a value is received, and of a place where it is
 abbrev pub formal_words : Formal → ℕ
 formal_words (ByValue target) = target_words target
-formal_words (ByCopy shape) = 2
-formal_words (ByVar at) = 2
+formal_words (ByCopy kind) = 2
+formal_words (ByVar at kind) = 2
 
-abbrev pub result_words : (words : List ℕ) → Result → ℕ
+abbrev pub result_words : (words : List ℕ) → CallResult → ℕ
 result_words words Nothing = 0
 result_words words (OneValue target) = target_words target
 result_words words (OnePlace shape) = slice_index words shape

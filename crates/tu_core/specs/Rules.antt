@@ -1,5 +1,6 @@
 -- The programs that the rules on effects and on overlap accept.
-use Rattle.tu_core.specs.Core.{At, Program}
+use Rattle.tu_core.specs.Core.{Program}
+use Rattle.tu_core.specs.declared.names.At.{At}
 use Rattle.tu_core.specs.Effects.{FunctionVar, FunctionWrites}
 use Rattle.tu_core.specs.Overlap.{SharedActual, ImportedActual, HiddenRoot, ChangedBound}
 

@@ -1,61 +1,27 @@
 -- What the check of types gives beside a well formed core, as far as the rules on overlap rest on it: what is changed is a variable, what
 -- is written as a constant has its value, and paths that begin alike go on alike.
-use Rattle.std.specs.Prelude.{◌≡◌, ◌≢◌, ℕ, Bool, true, false, List, [], ◌∷◌, take, slice_get, is_some, Option, Some, None, ℤ}
+use Rattle.std.specs.Prelude.{◌≡◌, ◌≢◌, ℕ, Bool, true, false, List, take, slice_get, is_some, Option, Some, None, ℤ}
 use Rattle.std.specs.List.{Contains}
-use Rattle.tu_base.specs.declared.operator.Unary.{Unary}
-use Rattle.tu_base.specs.declared.operator.Binary.{Binary}
-use Rattle.tu_base.specs.Scalars.{Answer, Gives, Raises, unary, binary, decided, is_true, truth_number}
-use Rattle.tu_core.specs.Core.{Variable, Global, Local, Scalar, Use, Literal, Prefixed, Chain, Links, NoLink, Link, Decide, Path, Name, OpenItem, Element, ResultOf, Selectors, End, Field, VariantField, Item, Subscripts, NoSubscript, Subscript, Call, Calls, Actuals, NoActual, Given, Lent, AScalar, Start, WithValue, Named, Formal, ByValue, ByCopy, ByVar, LocalName, Declared, DeclaredArray, BoundName, Counter, Caught, ResultName, Nothing, Routine, Program}
-use Rattle.tu_core.specs.Places.{Names, has_some, local_name}
-use Rattle.tu_core.specs.WellFormed.{names_of, main_names}
+use Rattle.tu_core.specs.Core.{Path, Name, OpenItem, Element, ResultOf, Selectors, End, Field, VariantField, Item, Subscripts, NoSubscript, Subscript, Call, Calls, Actuals, NoActual, Given, Lent, AScalar, Start, WithValue, Named, Routine, Program}
+use Rattle.tu_core.specs.declared.names.Variable.{Variable}
+use Rattle.tu_core.specs.declared.names.Variable.TheVariants.{Global, Local}
+use Rattle.tu_core.specs.declared.names.Formal.{Formal}
+use Rattle.tu_core.specs.declared.names.Formal.TheVariants.{ByValue, ByCopy, ByVar}
+use Rattle.tu_core.specs.declared.names.LocalName.{LocalName}
+use Rattle.tu_core.specs.declared.names.LocalName.TheVariants.{Declared, DeclaredArray, BoundName, BoundText, BoundArray, Counter, Caught, ResultName}
+use Rattle.tu_core.specs.declared.names.CallResult.TheVariants.{Nothing}
+use Rattle.tu_core.specs.Constants.{Known, value_of, known_in, is_declared}
+use Rattle.tu_core.specs.Places.{Names, main_names, names_of, has_some, local_name}
 use Rattle.tu_core.specs.Acts.{Subject, AVariable, ACollection, subject_of, Act, Changing, Calling, Binding, Declaring, Defining, routine_acts, main_acts}
 use Rattle.tu_core.specs.Effects.{changes, tails}
 
--- the values of the constants of a text, where they are known
-abbrev pub Known : Type 0
-Known = Variable → Option ℤ
-
--- The value of a constant expression. One that would raise an exception has none.
-abbrev pub answer_value : Answer ℤ → Option ℤ
-answer_value (Gives z units) = Some z
-answer_value (Raises exception units) = None
-
-abbrev pub prefixed_value : List Unary → Option ℤ → Option ℤ
-prefixed_value [] z = z
-prefixed_value (operator ∷ more) z = elim (prefixed_value more z) [ None ↦ None | Some x ↦ answer_value (unary operator x) ]
-
-abbrev pub binary_value : Binary → ℤ → Option ℤ → Option ℤ
-binary_value operator x None = None
-binary_value operator x (Some y) = answer_value (binary operator x y)
-
-abbrev pub unless_decided_value : Option Bool → Option ℤ → Option ℤ
-unless_decided_value None right = right
-unless_decided_value (Some b) right = Some (truth_number b)
-
+-- with these constants
 module _ (known : Known) where
-  abbrev pub use_value : Path → Option ℤ
-  use_value (Name at x End) = known x
-  use_value path = None
-
-  abbrev mutual
-    pub value_of : Scalar → Option ℤ
-    value_of (Literal n z) = Some z
-    value_of (Use n path) = use_value path
-    value_of (Prefixed n operators e) = prefixed_value operators (value_of e)
-    value_of (Chain n e links) = chain_value (value_of e) links
-    value_of e = None
-
-    pub chain_value : Option ℤ → Links → Option ℤ
-    chain_value None links = None
-    chain_value (Some z) NoLink = Some z
-    chain_value (Some z) (Link operator e more) = chain_value (binary_value operator z (value_of e)) more
-    chain_value (Some z) (Decide operator e more) = chain_value (unless_decided_value (decided operator (is_true z)) (value_of e)) more
-
   -- subscripts that are written as constants have their values
   abbrev pub HaveValues : Subscripts → Type 0
   HaveValues NoSubscript = Unit {0}
   HaveValues (Subscript None e more) = HaveValues more
-  HaveValues (Subscript (Some z) e more) = (value_of e ≡ Some z) × HaveValues more
+  HaveValues (Subscript (Some z) e more) = (value_of known e ≡ Some z) × HaveValues more
 
   abbrev pub SelectorsHaveValues : Selectors → Type 0
   SelectorsHaveValues End = Unit {0}
@@ -71,7 +37,7 @@ module _ (known : Known) where
 
   -- a constant whose value is known gets that value
   abbrev pub StartsWith : Start → ℤ → Type 0
-  StartsWith (WithValue target (AScalar e)) z = value_of e ≡ Some z
+  StartsWith (WithValue target (AScalar e)) z = value_of known e ≡ Some z
   StartsWith start z = ⊥
 
   abbrev pub GetsItsValue : Named → Type 0
@@ -109,19 +75,17 @@ LendsRight known (Lent at is_var bounds path more) = (is_var ≡ true → is_som
 abbrev pub is_constant : Option Formal → Bool
 is_constant None = false
 is_constant (Some (ByValue target)) = true
-is_constant (Some (ByCopy shape)) = true
-is_constant (Some (ByVar at)) = false
-
-abbrev pub is_declared : LocalName → Bool
-is_declared (Declared shape) = true
-is_declared x = false
+is_constant (Some (ByCopy kind)) = true
+is_constant (Some (ByVar at kind)) = false
 
 -- what a declaration, a `for`, a handler or a result names
 abbrev pub is_own : LocalName → Bool
 is_own (Declared shape) = true
 is_own (DeclaredArray indexes component) = true
-is_own (BoundName is_scalar) = false
-is_own Counter = true
+is_own (BoundName shape) = false
+is_own BoundText = false
+is_own (BoundArray indexes component) = false
+is_own (Counter s) = true
 is_own Caught = true
 is_own ResultName = true
 
@@ -163,10 +127,6 @@ module _ (names : Names) (is_routine : Bool) (known : Known) where
     pub bound : (rest : Act × List Act) → Contains (tails acts) rest → KeepsBound rest
     -- only a declared name is a constant
     pub declared : (x : ℕ) → known (Local x) ≢ None → has_some is_declared (local_name names x) ≡ true
-
-abbrev pub known_in : (globals locals : ℕ → Option ℤ) → Known
-known_in globals locals (Global x) = globals x
-known_in globals locals (Local x) = locals x
 
 -- There are values of the constants with which each text is right.
 pub record IsTyped (program : Program) : Type 0 where

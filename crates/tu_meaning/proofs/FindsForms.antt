@@ -1,5 +1,5 @@
 -- The induction over a core: a rule applies to each step of what is well formed.
-use Rattle.std.proofs.Common.{◌≡◌, ℕ, zero, suc, Bool, true, false, ◌&&◌, List, [], ◌∷◌, ◌++◌, length, Option, Some, None, refl, sym, subst}
+use Rattle.std.proofs.Common.{◌≡◌, ℕ, zero, suc, Bool, true, false, ◌&&◌, List, [], ◌∷◌, ◌++◌, Option, Some, None, refl, sym, subst}
 use Rattle.std.specs.Prelude.{ℤ, pos, slice_get, is_some}
 use Rattle.std.specs.List.{list_all}
 use Rattle.tu_base.specs.declared.kind.Kind.TheVariants as kind
@@ -13,9 +13,22 @@ use Rattle.tu_base.specs.Texts.{compare_texts, joined, repeated, place_in, chara
 use Rattle.tu_base.specs.Sets.{Base, with_member, membership, combined, compare_sets}
 use Rattle.tu_base.specs.Reading.{look as look_ahead, token, line as whole_line, count}
 use Rattle.tu_base.specs.Streams.{open_stream, close_stream}
-use Rattle.tu_core.specs.Core.{At, Variable, Index, Known, Open, Size, Target, TakesScalar, Scalar, Literal, Use, Prefixed, Chain, CompareTexts, CompareSets, ComparePointers, Member, Length, PlaceIn, ByteOf, TextInt, Bound, AtEnd, CallScalar, Links, NoLink, Link, Decide, Text, Written, UseText, Joined, Cut, Character, IntText, Repeat, CallText, Texts, NoText, AndText, Cuts, NoCut, CutCharacter, CutPart, Spot, Exactly, Last, BeforeLast, Set, SetOf, FullSet, UseSet, Combined, CallSet, Combinations, NoSet, AndSet, Pointer, Nil, UsePointer, CallPointer, Scalars, NoScalar, AndScalar, Optional, Absent, Present, Path, Name, OpenItem, Element, ResultOf, Selectors, End, Field, VariantField, Item, Subscripts, NoSubscript, Subscript, Call, Calls, Actuals, NoActual, Given, Lent, Simple, AScalar, AText, ASet, APointer, Start, WithValue, WithCopy, WithParts, Starts, NoStart, AndStart, Range, FromTo, Through, Shown, NoneShown, ShowInt, ShowTruth, ShowText, Taken, NoneTaken, TakeInt, TakeTruth, TakeToken, TakeLine, TakeCount, Test, Plain, Assign, Copy, Exit, Return, Give, GiveCopy, Check, New, Free, Tag, Put, Get, OpenStream, Close, Do, Quit, Named, Declaration, Constant, InitClause, Variables, Started, Arrays, Collections, Mention, Statement, Simply, If, Loop, For, Case, Begin, Module, Block, Empty, Then, Declare, Bind, Otherwise, Else, Elsif, Arms, NoArm, Default, Labelled, Formal, ByValue, ByCopy, ByVar, Handler, NoHandler, Handles, Result, Nothing, OneValue, OnePlace, Routine, Program}
-use Rattle.tu_core.specs.Places.{OfScalar, OfText, OfSet, OfPointer, Stands, NoPlace, Shaped, Sorted, OpenArray, Elsewhere, Names, has_some, is_shape_of, is_place, has_shape, field_at, variant_field_at, item_at, count_subscripts, shape_at, stands_at, open_item, element_of, temporary}
-use Rattle.tu_core.specs.WellFormed.{part_at, gives_sort, gives_place, gives_nothing, has_no_formal, can_keep, good_invariant, good_scalar, good_links, good_optional, good_text, good_texts, good_cuts, good_spot, good_set, good_combinations, good_scalars, good_pointer, good_simple, good_subscripts, good_path, good_selectors, good_call, good_actuals, good_start, good_starts, good_start_at, good_constant, good_bounds, good_declaration, good_shown, good_taken, is_tagged, good_plain, good_range, good_test, good_statement, good_block, good_otherwise, good_arms, good_handler, good_blocks, good_routine, names_of}
+use Rattle.tu_core.specs.declared.names.At.{At}
+use Rattle.tu_core.specs.declared.names.Variable.{Variable}
+use Rattle.tu_core.specs.declared.names.Formal.{Formal}
+use Rattle.tu_core.specs.declared.names.Formal.TheVariants.{ByValue, ByCopy, ByVar}
+use Rattle.tu_core.specs.declared.names.CallResult.{CallResult}
+use Rattle.tu_core.specs.declared.names.CallResult.TheVariants.{Nothing, OneValue, OnePlace}
+use Rattle.tu_core.specs.declared.targets.Index.{Index}
+use Rattle.tu_core.specs.declared.targets.Index.TheVariants.{Known, Open}
+use Rattle.tu_core.specs.declared.targets.Size.{Size}
+use Rattle.tu_core.specs.declared.targets.Target.{Target}
+use Rattle.tu_core.specs.declared.targets.Target.TheVariants.{TakesScalar, TakesText, TakesSet, TakesPointer}
+use Rattle.tu_core.specs.Core.{Scalar, Literal, Use, Prefixed, Chain, CompareTexts, CompareSets, ComparePointers, Member, Length, PlaceIn, ByteOf, TextInt, Bound, AtEnd, CallScalar, Links, NoLink, Link, Decide, Text, Written, UseText, Joined, Cut, Character, IntText, Repeat, CallText, Texts, NoText, AndText, Cuts, NoCut, CutCharacter, CutPart, Spot, Exactly, Last, BeforeLast, Set, SetOf, FullSet, UseSet, Combined, CallSet, Combinations, NoSet, AndSet, Pointer, Nil, UsePointer, CallPointer, Scalars, NoScalar, AndScalar, Optional, Absent, Present, Path, Name, OpenItem, Element, ResultOf, Selectors, End, Field, VariantField, Item, Subscripts, NoSubscript, Subscript, Call, Calls, Actuals, NoActual, Given, Lent, Simple, AScalar, AText, ASet, APointer, Start, WithValue, WithCopy, WithParts, Starts, NoStart, AndStart, Range, FromTo, Through, Shown, NoneShown, ShowInt, ShowTruth, ShowText, Taken, NoneTaken, TakeInt, TakeTruth, TakeToken, TakeLine, TakeCount, Test, Plain, Assign, Copy, Exit, Return, Give, GiveCopy, Check, New, Free, Tag, Put, Get, OpenStream, Close, Do, Quit, Named, Declaration, Constant, InitClause, Variables, Started, Arrays, Collections, Mention, Statement, Simply, If, Loop, For, Case, Begin, Module, Block, Empty, Then, Declare, Bind, Otherwise, Else, Elsif, Arms, NoArm, Default, Labelled, Handler, NoHandler, Handles, Routine, Program}
+use Rattle.tu_core.specs.Targets.{is_scalar, is_text, is_set_of, is_pointer_to}
+use Rattle.tu_core.specs.Rooms.{is_scalar_shape}
+use Rattle.tu_core.specs.Places.{Stands, NoPlace, Shaped, Takes, OpenArray, Names, names_of, body_names, gives_nothing, has_some, is_place, has_shape, field_at, variant_field_at, item_at, count_subscripts, shape_at, stands_at, open_item, element_of, call_stands}
+use Rattle.tu_core.specs.WellFormed.{part_at, gives_value, gives_place, collection_of, good_value, has_no_formal, can_keep, good_invariant, good_scalar, good_links, good_optional, good_text, good_texts, good_cuts, good_spot, good_set, good_combinations, good_scalars, good_pointer, good_subscripts, good_path, good_selectors, good_call, good_actuals, good_start, good_starts, good_start_at, good_constant, good_bounds, good_declaration, good_shown, good_taken, is_tagged, good_plain, good_range, good_test, good_statement, good_block, good_otherwise, good_arms, good_handler, good_blocks, good_routine}
 use Rattle.tu_core.specs.Walk.{Pair, pairs_of}
 use Rattle.tu_core.specs.Rooms.{joins, scalars_of}
 use Rattle.tu_meaning.specs.Steps.{Step}
@@ -25,7 +38,7 @@ use Rattle.tu_meaning.specs.Expressions.{root_of, Performs, Taken as Caught, Run
 use Rattle.tu_meaning.specs.Statements.{condition, store, begin, begin_all, declare_all, assign_all, name_constant, name_constants, upper_bounds, declare_arrays, declare, width, show, most_at, most_token, store_text, get, quit, execute_plain, first_and_count, is_labelled, test, execute_round, execute_indexed, execute_arm, in_scope, begun, execute, execute_otherwise, choose, execute_parts}
 use Rattle.tu_meaning.specs.Subprograms.{execute_text, receive_all, result_of, unless_missing, run_body, run_handled, name_result, run_routine, activation, calls}
 use Rattle.tu_meaning.proofs.WordForms.{Any}
-use Rattle.tu_meaning.proofs.Tests.{no_so, left, right, has_item, all_pass}
+use Rattle.tu_core.proofs.Tests.{no_so, left, right, has_item, all_pass}
 use Rattle.tu_meaning.proofs.Finds.{Finds, finds_bind, ◌▹◌, finds_give, gives, raises, stops, finds_look, finds_change, finds_pay, finds_note, finds_if, finds_turn, finds_room, finds_scope, finds_handled, finds_answered, finds_present, finds_demand, finds_unless_raised, finds_truth, finds_prefixed, finds_unless_decided, finds_subscribed, finds_bound_in, finds_outside, finds_living, finds_make_element, finds_remove_element, finds_keep_file, finds_put_part, finds_end_line, finds_width_of, finds_source_there, finds_take_text, finds_and_then, finds_rounds, finds_rounds_over}
 
 -- as many actuals as formals, each of the kind that its formal takes
@@ -35,10 +48,10 @@ Fits [] (a ∷ others) = ⊥
 Fits (f ∷ more) [] = ⊥
 Fits (ByValue target ∷ more) (GivenValue bounds v ∷ others) = Fits more others
 Fits (ByValue target ∷ more) (LentPlace is_var bounds p ∷ others) = ⊥
-Fits (ByCopy shape ∷ more) (GivenValue bounds v ∷ others) = ⊥
-Fits (ByCopy shape ∷ more) (LentPlace is_var bounds p ∷ others) = Fits more others
-Fits (ByVar at ∷ more) (GivenValue bounds v ∷ others) = ⊥
-Fits (ByVar at ∷ more) (LentPlace is_var bounds p ∷ others) = Fits more others
+Fits (ByCopy kind ∷ more) (GivenValue bounds v ∷ others) = ⊥
+Fits (ByCopy kind ∷ more) (LentPlace is_var bounds p ∷ others) = Fits more others
+Fits (ByVar at kind ∷ more) (GivenValue bounds v ∷ others) = ⊥
+Fits (ByVar at kind ∷ more) (LentPlace is_var bounds p ∷ others) = Fits more others
 
 fits_none : (formals : List Formal) → has_no_formal formals ≡ true → Fits formals []
 fits_none [] w = tt
@@ -88,7 +101,7 @@ module _ {S : Type 0} where
   finds_union (Some (record_shape fields)) k w = no_so w
   finds_union (Some (union_shape tag variants)) k w = finds_give _ (gives (tag, variants))
 
-  finds_scalar : (x : Option Shape) → has_some (is_shape_of OfScalar) x ≡ true → Finds S Shape (IsScalar S) (found x)
+  finds_scalar : (x : Option Shape) → has_some is_scalar_shape x ≡ true → Finds S Shape (IsScalar S) (found x)
   finds_scalar None w = no_so w
   finds_scalar (Some (scalar_shape s)) w = finds_give _ (gives s)
   finds_scalar (Some (text_shape most)) w = no_so w
@@ -145,16 +158,18 @@ module _ (S : Type 0) (p : Passing S) (turns : ℕ) (words : List ℕ) where
       finds_evaluate line (Prefixed m operators e) w = finds_pay _ ▹ λ _. finds_evaluate line e w ▹ λ z. finds_prefixed line operators z
       finds_evaluate line (Chain m e links) w = finds_pay _ ▹ λ _. finds_evaluate line e (left _ _ w) ▹ λ z. finds_chain line z links (right _ _ w)
       finds_evaluate line (CompareTexts m relation a b) w = finds_pay _ ▹ λ _. finds_text line a (left _ _ w) ▹ λ x. finds_text line b (right _ _ w) ▹ λ y. finds_answered line (compare_texts relation x y) ▹ λ holds. finds_truth holds
-      finds_evaluate line (CompareSets m relation base a b) w = finds_pay _ ▹ λ _. finds_set line a (left _ _ w) ▹ λ x. finds_set line b (right _ _ w) ▹ λ y. finds_answered line (compare_sets base relation x y) ▹ λ holds. finds_truth holds
-      finds_evaluate line (ComparePointers m is_equal a b) w = finds_pay _ ▹ λ _. finds_pointer line a (left _ _ w) ▹ λ x. finds_pointer line b (right _ _ w) ▹ λ y. finds_truth _
-      finds_evaluate line (Member m is_wanted base e s) w = finds_pay _ ▹ λ _. finds_evaluate line e (left _ _ w) ▹ λ z. finds_set line s (right _ _ w) ▹ λ members. finds_answered line (membership base is_wanted z members) ▹ λ holds. finds_truth holds
+      finds_evaluate line (CompareSets m relation base a b) w = finds_pay _ ▹ λ _. finds_set line base a (left _ _ w) ▹ λ x. finds_set line base b (right _ _ w) ▹ λ y. finds_answered line (compare_sets base relation x y) ▹ λ holds. finds_truth holds
+      finds_evaluate line (ComparePointers m is_equal a b) w =
+          let h = has_item (λ c. good_pointer names c a && good_pointer names c b) (collection_of names a) w in
+          finds_pay _ ▹ λ _. finds_pointer line h.item a (left _ _ h.passes) ▹ λ x. finds_pointer line h.item b (right _ _ h.passes) ▹ λ y. finds_truth _
+      finds_evaluate line (Member m is_wanted base e s) w = finds_pay _ ▹ λ _. finds_evaluate line e (left _ _ w) ▹ λ z. finds_set line base s (right _ _ w) ▹ λ members. finds_answered line (membership base is_wanted z members) ▹ λ holds. finds_truth holds
       finds_evaluate line (Length m e) w = finds_pay _ ▹ λ _. finds_text line e w ▹ λ bytes. gives _
       finds_evaluate line (PlaceIn m a b) w = finds_pay _ ▹ λ _. finds_text line a (left _ _ w) ▹ λ x. finds_text line b (right _ _ w) ▹ λ y. finds_answered line (place_in x y)
       finds_evaluate line (ByteOf m e) w = finds_pay _ ▹ λ _. finds_text line e w ▹ λ bytes. finds_answered line (byte_of bytes)
       finds_evaluate line (TextInt m e) w = finds_pay _ ▹ λ _. finds_text line e w ▹ λ bytes. finds_answered line (text_int bytes)
       finds_evaluate line (Bound m is_upper indexes path dimension) w = finds_pay _ ▹ λ _. finds_locate line path (left _ _ w) ▹ λ q. finds_bounds_of q.root ▹ λ bounds. finds_optional line (pos 1) dimension (right _ _ (right _ _ w)) ▹ λ d. finds_bound_in line is_upper (spans_of indexes bounds) d
       finds_evaluate line (AtEnd m at stream) w = finds_pay _ ▹ λ _. finds_stream_of line stream w ▹ λ j. finds_at_end line j
-      finds_evaluate line (CallScalar m call) w = finds_pay _ ▹ λ _. finds_do_call line (gives_sort OfScalar) call w ▹ λ back. finds_present line _
+      finds_evaluate line (CallScalar m call) w = finds_pay _ ▹ λ _. finds_do_call line (gives_value is_scalar) call w ▹ λ back. finds_present line _
 
       finds_chain : (line : ℕ) (z : ℤ) (links : Links) → good_links names links ≡ true → Finds S ℤ Any (chain (here n perform scalars taken) line z links)
       finds_chain line z NoLink w = gives z
@@ -177,7 +192,7 @@ module _ (S : Type 0) (p : Passing S) (turns : ℕ) (words : List ℕ) where
       finds_text line (Character m e) w = finds_pay _ ▹ λ _. finds_evaluate line e w ▹ λ z. finds_answered line (text_of_byte z)
       finds_text line (IntText m e wide) w = finds_pay _ ▹ λ _. finds_evaluate line e (left _ _ w) ▹ λ z. finds_optional line (pos 0) wide (right _ _ w) ▹ λ j. finds_answered line (int_text z j)
       finds_text line (Repeat m e j) w = finds_pay _ ▹ λ _. finds_text line e (left _ _ w) ▹ λ bytes. finds_evaluate line j (right _ _ w) ▹ λ z. finds_answered line (repeated bytes z)
-      finds_text line (CallText m call) w = finds_pay _ ▹ λ _. finds_do_call line (gives_sort OfText) call w ▹ λ back. finds_present line _
+      finds_text line (CallText m call) w = finds_pay _ ▹ λ _. finds_do_call line (gives_value is_text) call w ▹ λ back. finds_present line _
 
       finds_join : (line : ℕ) (bytes : List ℕ) (more : Texts) → good_texts names more ≡ true → Finds S (List ℕ) Any (join (here n perform scalars taken) line bytes more)
       finds_join line bytes NoText w = gives bytes
@@ -193,31 +208,43 @@ module _ (S : Type 0) (p : Passing S) (turns : ℕ) (words : List ℕ) where
       finds_spot line bytes Last w = finds_pay _ ▹ λ _. gives _
       finds_spot line bytes (BeforeLast e) w = finds_pay _ ▹ λ _. finds_evaluate line e w ▹ λ z. finds_answered line _
 
-      finds_set : (line : ℕ) (e : Set) → good_set names e ≡ true → Finds S (List Bool) Any (evaluate_set (here n perform scalars taken) line e)
-      finds_set line (SetOf m base es) w = finds_pay _ ▹ λ _. finds_gather line base _ es w ▹ λ members. finds_pay _ ▹ λ _. gives members
-      finds_set line (FullSet m base) w = finds_pay _ ▹ λ _. finds_pay _ ▹ λ _. gives _
-      finds_set line (UseSet m path) w = finds_locate line path (left _ _ w) ▹ λ q. finds_value_at q ▹ λ v. finds_present line _
-      finds_set line (Combined m base e more) w = finds_pay _ ▹ λ _. finds_set line e (left _ _ w) ▹ λ members. finds_combine line base members more (right _ _ w)
-      finds_set line (CallSet m call) w = finds_pay _ ▹ λ _. finds_do_call line (gives_sort OfSet) call w ▹ λ back. finds_present line _
+      finds_set : (line : ℕ) (base : Base) (e : Set) → good_set names base e ≡ true → Finds S (List Bool) Any (evaluate_set (here n perform scalars taken) line e)
+      finds_set line base (SetOf m other es) w = finds_pay _ ▹ λ _. finds_gather line other _ es (right _ _ w) ▹ λ members. finds_pay _ ▹ λ _. gives members
+      finds_set line base (FullSet m other) w = finds_pay _ ▹ λ _. finds_pay _ ▹ λ _. gives _
+      finds_set line base (UseSet m path) w = finds_locate line path (left _ _ w) ▹ λ q. finds_value_at q ▹ λ v. finds_present line _
+      finds_set line base (Combined m other e more) w = finds_pay _ ▹ λ _. finds_set line base e (left _ _ (right _ _ w)) ▹ λ members. finds_combine line base other members more (right _ _ (right _ _ w))
+      finds_set line base (CallSet m call) w = finds_pay _ ▹ λ _. finds_do_call line (gives_value (is_set_of base)) call w ▹ λ back. finds_present line _
 
-      finds_combine : (line : ℕ) (base : Base) (members : List Bool) (more : Combinations) → good_combinations names more ≡ true → Finds S (List Bool) Any (combine (here n perform scalars taken) line base members more)
-      finds_combine line base members NoSet w = gives members
-      finds_combine line base members (AndSet operator e more) w = finds_set line e (left _ _ w) ▹ λ others. finds_answered line (combined base operator members others) ▹ λ all. finds_combine line base all more (right _ _ w)
+      finds_combine : (line : ℕ) (base other : Base) (members : List Bool) (more : Combinations) → good_combinations names base more ≡ true → Finds S (List Bool) Any (combine (here n perform scalars taken) line other members more)
+      finds_combine line base other members NoSet w = gives members
+      finds_combine line base other members (AndSet operator e more) w = finds_set line base e (left _ _ w) ▹ λ others. finds_answered line (combined other operator members others) ▹ λ all. finds_combine line base other all more (right _ _ w)
 
       finds_gather : (line : ℕ) (base : Base) (members : List Bool) (es : Scalars) → good_scalars names es ≡ true → Finds S (List Bool) Any (gather (here n perform scalars taken) line base members es)
       finds_gather line base members NoScalar w = gives members
       finds_gather line base members (AndScalar e more) w = finds_evaluate line e (left _ _ w) ▹ λ z. finds_answered line (with_member base z members) ▹ λ others. finds_gather line base others more (right _ _ w)
 
-      finds_pointer : (line : ℕ) (e : Pointer) → good_pointer names e ≡ true → Finds S ℕ Any (evaluate_pointer (here n perform scalars taken) line e)
-      finds_pointer line (Nil m at j) w = finds_pay _ ▹ λ _. gives 0
-      finds_pointer line (UsePointer m path) w = finds_locate line path (left _ _ w) ▹ λ q. finds_value_at q ▹ λ v. finds_present line _
-      finds_pointer line (CallPointer m call) w = finds_pay _ ▹ λ _. finds_do_call line (gives_sort OfPointer) call w ▹ λ back. finds_present line _
+      finds_pointer : (line : ℕ) (c : ℕ) (e : Pointer) → good_pointer names c e ≡ true → Finds S ℕ Any (evaluate_pointer (here n perform scalars taken) line e)
+      finds_pointer line c (Nil m at j) w = finds_pay _ ▹ λ _. gives 0
+      finds_pointer line c (UsePointer m path) w = finds_locate line path (left _ _ w) ▹ λ q. finds_value_at q ▹ λ v. finds_present line _
+      finds_pointer line c (CallPointer m call) w = finds_pay _ ▹ λ _. finds_do_call line (gives_value (is_pointer_to c)) call w ▹ λ back. finds_present line _
 
-      finds_simple : (line : ℕ) (e : Simple) → good_simple names e ≡ true → Finds S Value Any (evaluate_simple (here n perform scalars taken) line e)
-      finds_simple line (AScalar e) w = finds_evaluate line e w ▹ λ z. gives (Number z)
-      finds_simple line (AText e) w = finds_text line e w ▹ λ bytes. gives (Bytes bytes)
-      finds_simple line (ASet e) w = finds_set line e w ▹ λ members. gives (Members members)
-      finds_simple line (APointer e) w = finds_pointer line e w ▹ λ j. gives (Creation j)
+      finds_value : (line : ℕ) (target : Target) (e : Simple) → good_value names target e ≡ true → Finds S Value Any (evaluate_simple (here n perform scalars taken) line e)
+      finds_value line (TakesScalar s) (AScalar e) w = finds_evaluate line e w ▹ λ z. gives (Number z)
+      finds_value line (TakesScalar s) (AText e) w = no_so w
+      finds_value line (TakesScalar s) (ASet e) w = no_so w
+      finds_value line (TakesScalar s) (APointer e) w = no_so w
+      finds_value line (TakesText size) (AScalar e) w = no_so w
+      finds_value line (TakesText size) (AText e) w = finds_text line e w ▹ λ bytes. gives (Bytes bytes)
+      finds_value line (TakesText size) (ASet e) w = no_so w
+      finds_value line (TakesText size) (APointer e) w = no_so w
+      finds_value line (TakesSet base) (AScalar e) w = no_so w
+      finds_value line (TakesSet base) (AText e) w = no_so w
+      finds_value line (TakesSet base) (ASet e) w = finds_set line base e w ▹ λ members. gives (Members members)
+      finds_value line (TakesSet base) (APointer e) w = no_so w
+      finds_value line (TakesPointer c) (AScalar e) w = no_so w
+      finds_value line (TakesPointer c) (AText e) w = no_so w
+      finds_value line (TakesPointer c) (ASet e) w = no_so w
+      finds_value line (TakesPointer c) (APointer e) w = finds_pointer line c e w ▹ λ j. gives (Creation j)
 
       finds_subscripts : (line : ℕ) (es : Subscripts) → good_subscripts names es ≡ true → Finds S (List ℤ) Any (subscripts (here n perform scalars taken) line es)
       finds_subscripts line NoSubscript w = gives []
@@ -225,9 +252,9 @@ module _ (S : Type 0) (p : Passing S) (turns : ℕ) (words : List ℕ) where
 
       finds_locate : (line : ℕ) (path : Path) → good_path names path ≡ true → Finds S Place Any (locate (here n perform scalars taken) line path)
       finds_locate line (Name at x steps) w = finds_pay _ ▹ λ _. finds_follow line (root_of x) [] (stands_at names x) steps (right _ _ w)
-      finds_locate line (OpenItem at x indexes es steps) w = finds_pay _ ▹ λ _. finds_bounds_of (root_of x) ▹ λ bounds. finds_pay 1 ▹ λ _. finds_subscripts line es (left _ _ (left _ _ w)) ▹ λ xs. finds_subscribed line (spans_of indexes bounds) xs ▹ λ j. finds_follow line (root_of x) (j ∷ []) (open_item names (length indexes) (stands_at names x)) steps (right _ _ (left _ _ w))
-      finds_locate line (Element at m e steps) w = finds_pay _ ▹ λ _. finds_pointer line e (left _ _ w) ▹ λ j. finds_living line m j ▹ λ _. finds_follow line (OfCollection m j) [] (element_of names m) steps (right _ _ (right _ _ w))
-      finds_locate line (ResultOf at j call steps) w = finds_pay _ ▹ λ _. finds_do_call line (gives_place (temporary names j)) call (left _ _ w) ▹ λ back. finds_change _ ▹ λ _. finds_follow line (OfCall j) [] (temporary names j) steps (right _ _ w)
+      finds_locate line (OpenItem at x indexes es steps) w = finds_pay _ ▹ λ _. finds_bounds_of (root_of x) ▹ λ bounds. finds_pay 1 ▹ λ _. finds_subscripts line es (left _ _ (left _ _ w)) ▹ λ xs. finds_subscribed line (spans_of indexes bounds) xs ▹ λ j. finds_follow line (root_of x) (j ∷ []) (open_item indexes (stands_at names x)) steps (right _ _ (left _ _ w))
+      finds_locate line (Element at m e steps) w = finds_pay _ ▹ λ _. finds_pointer line m e (left _ _ w) ▹ λ j. finds_living line m j ▹ λ _. finds_follow line (OfCollection m j) [] (element_of names m) steps (right _ _ (right _ _ w))
+      finds_locate line (ResultOf at j call steps) w = finds_pay _ ▹ λ _. finds_do_call line gives_place call (left _ _ w) ▹ λ back. finds_change _ ▹ λ _. finds_follow line (OfCall j) [] (call_stands names call) steps (right _ _ w)
 
       finds_follow : (line : ℕ) (root : Root) (way : Way) (s : Stands) (steps : Selectors) → good_selectors names s steps ≡ true → Finds S Place Any (follow (here n perform scalars taken) line root way steps)
       finds_follow line root way s End w = gives _
@@ -235,7 +262,7 @@ module _ (S : Type 0) (p : Passing S) (turns : ℕ) (words : List ℕ) where
       finds_follow line root way s (VariantField m j more) w = finds_pay 1 ▹ λ _. finds_bind {Q = IsUnion S} (finds_union (shape_at names m) j (left _ _ (right _ _ w))) λ s' q. q ▹ λ u. finds_value_at (record { root = root; way = way ++ 0 ∷ [] }) ▹ λ tag. finds_demand kind.Tag line _ ▹ λ _. finds_follow line root (way ++ j ∷ []) (variant_field_at (shape_at names m) j) more (right _ _ (right _ _ w))
       finds_follow line root way s (Item m es more) w = finds_pay 1 ▹ λ _. finds_subscripts line es (left _ _ w) ▹ λ xs. finds_bind {Q = IsArray S} (finds_array (shape_at names m) (count_subscripts es) (left _ _ (right _ _ (right _ _ w)))) λ s' q. q ▹ λ spans. finds_subscribed line spans xs ▹ λ j. finds_follow line root (way ++ j ∷ []) (item_at (shape_at names m) (count_subscripts es)) more (right _ _ (right _ _ (right (good_subscripts names es) (has_shape m s && (is_place (item_at (shape_at names m) (count_subscripts es)) && good_selectors names (item_at (shape_at names m) (count_subscripts es)) more)) w)))
 
-      finds_do_call : (line : ℕ) (used : Result → Bool) (call : Call) → good_call names used call ≡ true → Finds S Back Any (do_call (here n perform scalars taken) line call)
+      finds_do_call : (line : ℕ) (used : CallResult → Bool) (call : Call) → good_call names used call ≡ true → Finds S Back Any (do_call (here n perform scalars taken) line call)
       finds_do_call line used (Calls at callee invariant actuals) w =
           let h = has_item (λ r. used r.gives && good_actuals names r.formals actuals) (slice_get names.program.routines callee) (right _ _ w) in
           finds_keep_invariant line invariant (left _ _ w) ▹ λ _. finds_bind {Q = Fits h.item.formals} (finds_actual line h.item.formals actuals (right _ _ h.passes)) λ given fits. finds_test_pairs line given (pairs_of actuals) ▹ λ _. performs line callee h.item given h.there fits ▹ λ back. finds_keep_invariant line invariant (left _ _ w) ▹ λ _. gives back
@@ -246,16 +273,16 @@ module _ (S : Type 0) (p : Passing S) (turns : ℕ) (words : List ℕ) where
       finds_actual line [] (Given at size e more) w = no_so w
       finds_actual line [] (Lent at is_var known path more) w = no_so w
       finds_actual line (ByValue target ∷ formals) NoActual w = no_so w
-      finds_actual line (ByCopy m ∷ formals) NoActual w = no_so w
-      finds_actual line (ByVar var ∷ formals) NoActual w = no_so w
-      finds_actual line (ByValue target ∷ formals) (Given at size e more) w = finds_simple line e (left _ _ w) ▹ λ v. finds_bind {Q = Fits formals} (finds_actual line formals more (right _ _ (right _ _ w))) λ others fits. finds_give _ fits
-      finds_actual line (ByCopy m ∷ formals) (Given at size e more) w = no_so w
-      finds_actual line (ByVar var ∷ formals) (Given at size e more) w = no_so w
+      finds_actual line (ByCopy kind ∷ formals) NoActual w = no_so w
+      finds_actual line (ByVar var kind ∷ formals) NoActual w = no_so w
+      finds_actual line (ByValue target ∷ formals) (Given at size e more) w = finds_value line target e (left _ _ w) ▹ λ v. finds_bind {Q = Fits formals} (finds_actual line formals more (right _ _ (right _ _ w))) λ others fits. finds_give _ fits
+      finds_actual line (ByCopy kind ∷ formals) (Given at size e more) w = no_so w
+      finds_actual line (ByVar var kind ∷ formals) (Given at size e more) w = no_so w
       finds_actual line (ByValue target ∷ formals) (Lent at is_var known path more) w = no_so w
-      finds_actual line (ByCopy m ∷ formals) (Lent at true known path more) w = no_so w
-      finds_actual line (ByCopy m ∷ formals) (Lent at false known path more) w = finds_locate line path (left _ _ w) ▹ λ q. finds_lent_bounds known q ▹ λ bounds. finds_bind {Q = Fits formals} (finds_actual line formals more (right _ _ (right _ _ w))) λ others fits. finds_give _ fits
-      finds_actual line (ByVar var ∷ formals) (Lent at false known path more) w = no_so w
-      finds_actual line (ByVar var ∷ formals) (Lent at true known path more) w = finds_locate line path (left _ _ w) ▹ λ q. finds_lent_bounds known q ▹ λ bounds. finds_bind {Q = Fits formals} (finds_actual line formals more (right _ _ w)) λ others fits. finds_give _ fits
+      finds_actual line (ByCopy kind ∷ formals) (Lent at true known path more) w = no_so w
+      finds_actual line (ByCopy kind ∷ formals) (Lent at false known path more) w = finds_locate line path (left _ _ w) ▹ λ q. finds_lent_bounds known q ▹ λ bounds. finds_bind {Q = Fits formals} (finds_actual line formals more (right _ _ (right _ _ w))) λ others fits. finds_give _ fits
+      finds_actual line (ByVar var kind ∷ formals) (Lent at false known path more) w = no_so w
+      finds_actual line (ByVar var kind ∷ formals) (Lent at true known path more) w = finds_locate line path (left _ _ w) ▹ λ q. finds_lent_bounds known q ▹ λ bounds. finds_bind {Q = Fits formals} (finds_actual line formals more (right _ _ (right _ _ w))) λ others fits. finds_give _ fits
 
     finds_condition : (line : ℕ) (e : Scalar) → good_scalar names e ≡ true → Finds S Bool Any (condition (here n perform scalars taken) line e)
     finds_condition line e w = finds_evaluate line e w ▹ λ z. gives _
@@ -265,8 +292,8 @@ module _ (S : Type 0) (p : Passing S) (turns : ℕ) (words : List ℕ) where
 
     mutual
       finds_begin : (line : ℕ) (m : ℕ) (start : Start) → good_start names m start ≡ true → Finds S Content Any (begin (here n perform scalars taken) line start)
-      finds_begin line m (WithValue target e) w = finds_simple line e (left _ _ (left _ _ w)) ▹ λ v. finds_unless_raised line _ ▹ λ _. gives _
-      finds_begin line m (WithCopy j path) w = finds_locate line path (left _ _ (left _ _ (left _ _ w))) ▹ λ q. finds_fetched q
+      finds_begin line m (WithValue target e) w = finds_value line target e (left _ _ w) ▹ λ v. finds_unless_raised line _ ▹ λ _. gives _
+      finds_begin line m (WithCopy j path) w = finds_locate line path (left _ _ (left _ _ w)) ▹ λ q. finds_fetched q
       finds_begin line m (WithParts j starts) w = let h = has_item (λ s. good_starts names s 0 starts) (slice_get names.program.shapes m) (right _ _ w) in finds_pay 1 ▹ λ _. finds_begin_all line 0 unset h.item starts h.passes
 
       finds_begin_all : (line : ℕ) (j : ℕ) (content : Content) (s : Shape) (starts : Starts) → good_starts names s j starts ≡ true → Finds S Content Any (begin_all (here n perform scalars taken) line j content starts)
@@ -284,9 +311,8 @@ module _ (S : Type 0) (p : Passing S) (turns : ℕ) (words : List ℕ) where
     finds_begin_at : (line : ℕ) (s : Stands) (start : Start) → good_start_at names s start ≡ true → Finds S Content Any (begin (here n perform scalars taken) line start)
     finds_begin_at line NoPlace start w = no_so w
     finds_begin_at line (Shaped m) start w = finds_begin line m start w
-    finds_begin_at line (Sorted sort) start w = no_so w
-    finds_begin_at line (OpenArray dimensions component) start w = no_so w
-    finds_begin_at line (Elsewhere may_be_scalar) start w = no_so w
+    finds_begin_at line (Takes target) start w = no_so w
+    finds_begin_at line (OpenArray indexes component) start w = no_so w
 
     finds_name_constant : (line : ℕ) (x : Named) → good_constant names x ≡ true → Finds S (Unit {0}) Any (name_constant (here n perform scalars taken) line x)
     finds_name_constant line x w = finds_pay 1 ▹ λ _. finds_begin_at line (stands_at names x.name) x.start w ▹ λ content. finds_pay _ ▹ λ _. finds_change _
@@ -347,13 +373,13 @@ module _ (S : Type 0) (p : Passing S) (turns : ℕ) (words : List ℕ) where
     finds_quit_taken line (Some e) None w = raises e.0 e.1
 
     finds_plain : (line : ℕ) (s : Plain) → good_plain names s ≡ true → Finds S Flow Any (execute_plain (here n perform scalars taken) line s)
-    finds_plain line (Assign target path e) w = finds_pay _ ▹ λ _. finds_locate line path (left _ _ (right _ _ w)) ▹ λ q. finds_simple line e (left _ _ (left _ _ w)) ▹ λ v. finds_store line target q v ▹ λ _. finds_pay _ ▹ λ _. gives Next
-    finds_plain line (Copy m to from) w = finds_pay _ ▹ λ _. finds_locate line to (left _ _ (left _ _ (left _ _ w))) ▹ λ q. finds_locate line from (left _ _ (left _ _ (left _ _ (right _ _ w)))) ▹ λ o. finds_fetched o ▹ λ content. finds_change _ ▹ λ _. finds_pay _ ▹ λ _. gives Next
+    finds_plain line (Assign target path e) w = finds_pay _ ▹ λ _. finds_locate line path (left _ _ (right _ _ w)) ▹ λ q. finds_value line target e (left _ _ w) ▹ λ v. finds_store line target q v ▹ λ _. finds_pay _ ▹ λ _. gives Next
+    finds_plain line (Copy m to from) w = finds_pay _ ▹ λ _. finds_locate line to (left _ _ (left _ _ w)) ▹ λ q. finds_locate line from (left _ _ (right _ _ w)) ▹ λ o. finds_fetched o ▹ λ content. finds_change _ ▹ λ _. finds_pay _ ▹ λ _. gives Next
     finds_plain line (Exit Absent) w = finds_pay _ ▹ λ _. gives Exits
     finds_plain line (Exit (Present e)) w = finds_pay _ ▹ λ _. finds_condition line e w ▹ λ leaves. gives _
     finds_plain line Return w = finds_pay _ ▹ λ _. gives Returns
-    finds_plain line (Give target e) w = finds_pay _ ▹ λ _. finds_simple line e (left _ _ (left _ _ w)) ▹ λ v. finds_unless_raised line _ ▹ λ _. finds_pay _ ▹ λ _. gives _
-    finds_plain line (GiveCopy m path) w = finds_pay _ ▹ λ _. finds_locate line path (left _ _ (left _ _ (left _ _ w))) ▹ λ q. finds_fetched q ▹ λ content. finds_pay _ ▹ λ _. gives _
+    finds_plain line (Give target e) w = finds_pay _ ▹ λ _. finds_value line target e (left _ _ w) ▹ λ v. finds_unless_raised line _ ▹ λ _. finds_pay _ ▹ λ _. gives _
+    finds_plain line (GiveCopy m path) w = finds_pay _ ▹ λ _. finds_locate line path (left _ _ (left _ _ w)) ▹ λ q. finds_fetched q ▹ λ content. finds_pay _ ▹ λ _. gives _
     finds_plain line (Check claim e) w = finds_pay _ ▹ λ _. finds_condition line e w ▹ λ holds. finds_demand _ line holds ▹ λ _. gives Next
     finds_plain line (New j at path) w = finds_pay _ ▹ λ _. finds_locate line path (left _ _ (left _ _ w)) ▹ λ q. finds_found (slice_get names.program.collections j) (right _ _ w) ▹ λ m. finds_make_element line j _ ▹ λ i. finds_change _ ▹ λ _. finds_change _ ▹ λ _. gives Next
     finds_plain line (Free j at path) w = finds_pay _ ▹ λ _. finds_locate line path (left _ _ (left _ _ w)) ▹ λ q. finds_value_at q ▹ λ v. finds_present line (pointer_in v) ▹ λ i. finds_living line j i ▹ λ _. finds_change _ ▹ λ _. finds_remove_element j i ▹ λ _. gives Next
@@ -428,7 +454,7 @@ module _ (S : Type 0) (p : Passing S) (turns : ℕ) (words : List ℕ) where
     finds_result_of line Returns = raises kind.Result line
     finds_result_of line (GivesBack back) = gives back
 
-    finds_unless_missing : (line : ℕ) (result : Result) (flow : Flow) → Finds S Back Any (unless_missing S p turns program words line result flow)
+    finds_unless_missing : (line : ℕ) (result : CallResult) (flow : Flow) → Finds S Back Any (unless_missing S p turns program words line result flow)
     finds_unless_missing line Nothing flow = gives _
     finds_unless_missing line (OneValue target) flow = finds_result_of line flow
     finds_unless_missing line (OnePlace shape) flow = finds_result_of line flow
@@ -439,10 +465,10 @@ module _ (S : Type 0) (p : Passing S) (turns : ℕ) (words : List ℕ) where
     finds_receive_all line (f ∷ more) [] fits = absurd fits
     finds_receive_all line (ByValue target ∷ more) (GivenValue bounds v ∷ others) fits = (finds_unless_raised line _ ▹ λ _. finds_pay _) ▹ λ _. finds_receive_all line more others fits
     finds_receive_all line (ByValue target ∷ more) (LentPlace is_var bounds q ∷ others) fits = absurd fits
-    finds_receive_all line (ByCopy shape ∷ more) (GivenValue bounds v ∷ others) fits = absurd fits
-    finds_receive_all line (ByCopy shape ∷ more) (LentPlace is_var bounds q ∷ others) fits = finds_pay 1 ▹ λ _. finds_receive_all line more others fits
-    finds_receive_all line (ByVar at ∷ more) (GivenValue bounds v ∷ others) fits = absurd fits
-    finds_receive_all line (ByVar at ∷ more) (LentPlace is_var bounds q ∷ others) fits = finds_pay 1 ▹ λ _. finds_receive_all line more others fits
+    finds_receive_all line (ByCopy kind ∷ more) (GivenValue bounds v ∷ others) fits = absurd fits
+    finds_receive_all line (ByCopy kind ∷ more) (LentPlace is_var bounds q ∷ others) fits = finds_pay 1 ▹ λ _. finds_receive_all line more others fits
+    finds_receive_all line (ByVar at kind ∷ more) (GivenValue bounds v ∷ others) fits = absurd fits
+    finds_receive_all line (ByVar at kind ∷ more) (LentPlace is_var bounds q ∷ others) fits = finds_pay 1 ▹ λ _. finds_receive_all line more others fits
 
     finds_name_result : (x : Option ℕ) (back : Back) → Finds S (Unit {0}) Any (name_result S p turns program words x back)
     finds_name_result None back = gives tt
@@ -450,22 +476,22 @@ module _ (S : Type 0) (p : Passing S) (turns : ℕ) (words : List ℕ) where
 
     -- the activation of a subprogram, whose calls find a rule
     module _ (n : ℕ) (perform : Performs S) (performs : Calling S program perform) where
-      finds_run_body : (r : Routine) (in_handler : Bool) (taken : Caught) → (in_handler ≡ true → is_some taken ≡ true) → (block : Block) → good_block (names_of program r r.gives in_handler) block ≡ true → Finds S Back Any (run_body S p turns program words n perform taken r block)
+      finds_run_body : (r : Routine) (in_handler : Bool) (taken : Caught) → (in_handler ≡ true → is_some taken ≡ true) → (block : Block) → good_block (body_names program r in_handler) block ≡ true → Finds S Back Any (run_body S p turns program words n perform taken r block)
       finds_run_body r in_handler taken takes block w =
-          let names = names_of program r r.gives in_handler in
+          let names = body_names program r in_handler in
           finds_in_scope names n perform performs (scalars_of program.shapes r) taken takes _ (finds_parts names n perform performs (scalars_of program.shapes r) taken takes block w) ▹ λ flow. finds_unless_missing r.end_line r.gives flow
 
       -- `pre` and `init`, or `post`
       finds_beside : (r : Routine) (block : Block) → good_block (names_of program r Nothing false) block ≡ true → Finds S Flow Any (execute_text S p turns program words n perform (scalars_of program.shapes r) None block)
       finds_beside r block w = finds_parts (names_of program r Nothing false) n perform performs (scalars_of program.shapes r) None (λ e. no_so e) block w
 
-      finds_run_handled : (r : Routine) (h : Handler) → good_block (names_of program r r.gives false) r.body ≡ true → good_handler program r h ≡ true → Finds S Back Any (run_handled S p turns program words n perform r h)
+      finds_run_handled : (r : Routine) (h : Handler) → good_block (body_names program r false) r.body ≡ true → good_handler program r h ≡ true → Finds S Back Any (run_handled S p turns program words n perform r h)
       finds_run_handled r NoHandler body w = finds_run_body r false None (λ e. no_so e) r.body body
       finds_run_handled r (Handles at name block) body w = finds_pay 2 ▹ λ _. finds_handled (finds_run_body r false None (λ e. no_so e) r.body body) λ exception line. finds_pay 1 ▹ λ _. finds_change _ ▹ λ _. finds_run_body r true (Some (exception, line)) (λ e. refl) block (left _ _ w)
 
       finds_run_routine : (r : Routine) → good_blocks program r ≡ true → Finds S Back Any (run_routine S p turns program words n perform r)
       finds_run_routine r w =
-          let more = right (good_block (names_of program r Nothing false) r.before) (good_block (names_of program r r.gives false) r.body && (good_handler program r r.handler && good_block (names_of program r Nothing false) r.after)) w in
+          let more = right (good_block (names_of program r Nothing false) r.before) (good_block (body_names program r false) r.body && (good_handler program r r.handler && good_block (names_of program r Nothing false) r.after)) w in
           finds_beside r r.before (left _ _ w) ▹ λ begun. finds_run_handled r r.handler (left _ _ more) (left _ _ (right _ _ more)) ▹ λ back. finds_name_result r.result back ▹ λ _. finds_beside r r.after (right _ _ (right _ _ more)) ▹ λ checked. gives back
 
       finds_activation : (line : ℕ) (r : Routine) (actuals : List Actual) → good_routine program r ≡ true → Fits r.formals actuals → Finds S Back Any (activation S p turns program words n perform line actuals (Some r))

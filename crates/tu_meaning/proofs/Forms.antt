@@ -10,7 +10,18 @@ use Rattle.tu_base.specs.Texts.{compare_texts, joined, repeated, place_in, chara
 use Rattle.tu_base.specs.Sets.{Base, with_member, membership, combined, compare_sets}
 use Rattle.tu_base.specs.Reading.{look as look_ahead, token, line as whole_line, count}
 use Rattle.tu_base.specs.Streams.{open_stream, close_stream}
-use Rattle.tu_core.specs.Core.{At, Variable, Index, Known, Open, Size, Target, TakesScalar, Scalar, Literal, Use, Prefixed, Chain, CompareTexts, CompareSets, ComparePointers, Member, Length, PlaceIn, ByteOf, TextInt, Bound, AtEnd, CallScalar, Links, NoLink, Link, Decide, Text, Written, UseText, Joined, Cut, Character, IntText, Repeat, CallText, Texts, NoText, AndText, Cuts, NoCut, CutCharacter, CutPart, Spot, Exactly, Last, BeforeLast, Set, SetOf, FullSet, UseSet, Combined, CallSet, Combinations, NoSet, AndSet, Pointer, Nil, UsePointer, CallPointer, Scalars, NoScalar, AndScalar, Optional, Absent, Present, Path, Name, OpenItem, Element, ResultOf, Selectors, End, Field, VariantField, Item, Subscripts, NoSubscript, Subscript, Call, Calls, Actuals, NoActual, Given, Lent, Simple, AScalar, AText, ASet, APointer, Start, WithValue, WithCopy, WithParts, Starts, NoStart, AndStart, Range, FromTo, Through, Shown, NoneShown, ShowInt, ShowTruth, ShowText, Taken, NoneTaken, TakeInt, TakeTruth, TakeToken, TakeLine, TakeCount, Test, Plain, Assign, Copy, Exit, Return, Give, GiveCopy, Check, New, Free, Tag, Put, Get, OpenStream, Close, Do, Quit, Named, Declaration, Constant, InitClause, Variables, Started, Arrays, Collections, Mention, Statement, Simply, If, Loop, For, Case, Begin, Module, Block, Empty, Then, Declare, Bind, Otherwise, Else, Elsif, Arms, NoArm, Default, Labelled, Formal, ByValue, ByCopy, ByVar, Handler, NoHandler, Handles, Result, Nothing, OneValue, OnePlace, Routine, Program}
+use Rattle.tu_core.specs.declared.names.At.{At}
+use Rattle.tu_core.specs.declared.names.Variable.{Variable}
+use Rattle.tu_core.specs.declared.names.Formal.{Formal}
+use Rattle.tu_core.specs.declared.names.Formal.TheVariants.{ByValue, ByCopy, ByVar}
+use Rattle.tu_core.specs.declared.names.CallResult.{CallResult}
+use Rattle.tu_core.specs.declared.names.CallResult.TheVariants.{Nothing, OneValue, OnePlace}
+use Rattle.tu_core.specs.declared.targets.Index.{Index}
+use Rattle.tu_core.specs.declared.targets.Index.TheVariants.{Known, Open}
+use Rattle.tu_core.specs.declared.targets.Size.{Size}
+use Rattle.tu_core.specs.declared.targets.Target.{Target}
+use Rattle.tu_core.specs.declared.targets.Target.TheVariants.{TakesScalar}
+use Rattle.tu_core.specs.Core.{Scalar, Literal, Use, Prefixed, Chain, CompareTexts, CompareSets, ComparePointers, Member, Length, PlaceIn, ByteOf, TextInt, Bound, AtEnd, CallScalar, Links, NoLink, Link, Decide, Text, Written, UseText, Joined, Cut, Character, IntText, Repeat, CallText, Texts, NoText, AndText, Cuts, NoCut, CutCharacter, CutPart, Spot, Exactly, Last, BeforeLast, Set, SetOf, FullSet, UseSet, Combined, CallSet, Combinations, NoSet, AndSet, Pointer, Nil, UsePointer, CallPointer, Scalars, NoScalar, AndScalar, Optional, Absent, Present, Path, Name, OpenItem, Element, ResultOf, Selectors, End, Field, VariantField, Item, Subscripts, NoSubscript, Subscript, Call, Calls, Actuals, NoActual, Given, Lent, Simple, AScalar, AText, ASet, APointer, Start, WithValue, WithCopy, WithParts, Starts, NoStart, AndStart, Range, FromTo, Through, Shown, NoneShown, ShowInt, ShowTruth, ShowText, Taken, NoneTaken, TakeInt, TakeTruth, TakeToken, TakeLine, TakeCount, Test, Plain, Assign, Copy, Exit, Return, Give, GiveCopy, Check, New, Free, Tag, Put, Get, OpenStream, Close, Do, Quit, Named, Declaration, Constant, InitClause, Variables, Started, Arrays, Collections, Mention, Statement, Simply, If, Loop, For, Case, Begin, Module, Block, Empty, Then, Declare, Bind, Otherwise, Else, Elsif, Arms, NoArm, Default, Labelled, Handler, NoHandler, Handles, Routine, Program}
 use Rattle.tu_core.specs.Walk.{Pair, pairs_of}
 use Rattle.tu_core.specs.Rooms.{joins, scalars_of}
 use Rattle.tu_meaning.specs.Steps.{Step}
@@ -337,7 +348,7 @@ module _ (S S' : Type 0) (p : Passing S) (p' : Passing S') (turns turns' : ℕ) 
     sim_result_of n line Returns = raises kind.Result line
     sim_result_of n line (GivesBack back) = gives back
 
-    sim_unless_missing : (n line : ℕ) (result : Result) (flow : Flow) → Sims S S' turns turns' R n Back (unless_missing S p turns program words line result flow) (unless_missing S' p' turns' program words line result flow)
+    sim_unless_missing : (n line : ℕ) (result : CallResult) (flow : Flow) → Sims S S' turns turns' R n Back (unless_missing S p turns program words line result flow) (unless_missing S' p' turns' program words line result flow)
     sim_unless_missing n line Nothing flow = gives _
     sim_unless_missing n line (OneValue target) flow = sim_result_of n line flow
     sim_unless_missing n line (OnePlace shape) flow = sim_result_of n line flow
@@ -345,10 +356,10 @@ module _ (S S' : Type 0) (p : Passing S) (p' : Passing S') (turns turns' : ℕ) 
     sim_receive : (n line : ℕ) (f : Formal) (a : Actual) → Sims S S' turns turns' R n (Unit {0}) (receive S p turns program words line f a) (receive S' p' turns' program words line f a)
     sim_receive n line (ByValue target) (GivenValue bounds v) = sim_unless_raised line _ ▹ λ _. sim_pay _
     sim_receive n line (ByValue target) (LentPlace is_var bounds q) = sim_lost
-    sim_receive n line (ByCopy shape) (GivenValue bounds v) = sim_lost
-    sim_receive n line (ByCopy shape) (LentPlace is_var bounds q) = sim_pay 1
-    sim_receive n line (ByVar at) (GivenValue bounds v) = sim_lost
-    sim_receive n line (ByVar at) (LentPlace is_var bounds q) = sim_pay 1
+    sim_receive n line (ByCopy kind) (GivenValue bounds v) = sim_lost
+    sim_receive n line (ByCopy kind) (LentPlace is_var bounds q) = sim_pay 1
+    sim_receive n line (ByVar at kind) (GivenValue bounds v) = sim_lost
+    sim_receive n line (ByVar at kind) (LentPlace is_var bounds q) = sim_pay 1
 
     sim_receive_all : (n line : ℕ) (formals : List Formal) (actuals : List Actual) → Sims S S' turns turns' R n (Unit {0}) (receive_all S p turns program words line formals actuals) (receive_all S' p' turns' program words line formals actuals)
     sim_receive_all n line [] [] = gives tt

@@ -2,7 +2,6 @@ pub mod Alike
 pub mod WordForms
 mod Forms
 mod ProgramLaws
-mod Tests
 mod Finds
 mod FindsForms
 mod NeverStuck

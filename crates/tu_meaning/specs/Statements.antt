@@ -8,7 +8,14 @@ use Rattle.tu_base.specs.Scalars.{are_equal, is_true, truth_number}
 use Rattle.tu_base.specs.Texts.{put_int, put_truth, put_text, token_int, token_truth, token_text}
 use Rattle.tu_base.specs.Reading.{token, line as whole_line, count}
 use Rattle.tu_base.specs.Streams.{open_stream, close_stream}
-use Rattle.tu_core.specs.Core.{At, Variable, Index, Known, Open, Size, Target, TakesScalar, Scalar, Scalars, NoScalar, AndScalar, Optional, Absent, Present, Start, WithValue, WithCopy, WithParts, Starts, NoStart, AndStart, Range, FromTo, Through, Shown, NoneShown, ShowInt, ShowTruth, ShowText, Taken, NoneTaken, TakeInt, TakeTruth, TakeToken, TakeLine, TakeCount, Test, Plain, Assign, Copy, Exit, Return, Give, GiveCopy, Check, New, Free, Tag, Put, Get, OpenStream, Close, Do, Quit, Named, Declaration, Constant, InitClause, Variables, Started, Arrays, Collections, Mention, Statement, Simply, If, Loop, For, Case, Begin, Module, Block, Empty, Then, Declare, Bind, Otherwise, Else, Elsif, Arms, NoArm, Default, Labelled}
+use Rattle.tu_core.specs.declared.names.At.{At}
+use Rattle.tu_core.specs.declared.names.Variable.{Variable}
+use Rattle.tu_core.specs.declared.targets.Index.{Index}
+use Rattle.tu_core.specs.declared.targets.Index.TheVariants.{Known, Open}
+use Rattle.tu_core.specs.declared.targets.Size.{Size}
+use Rattle.tu_core.specs.declared.targets.Target.{Target}
+use Rattle.tu_core.specs.declared.targets.Target.TheVariants.{TakesScalar}
+use Rattle.tu_core.specs.Core.{Scalar, Scalars, NoScalar, AndScalar, Optional, Absent, Present, Start, WithValue, WithCopy, WithParts, Starts, NoStart, AndStart, Range, FromTo, Through, Shown, NoneShown, ShowInt, ShowTruth, ShowText, Taken, NoneTaken, TakeInt, TakeTruth, TakeToken, TakeLine, TakeCount, Test, Plain, Assign, Copy, Exit, Return, Give, GiveCopy, Check, New, Free, Tag, Put, Get, OpenStream, Close, Do, Quit, Named, Declaration, Constant, InitClause, Variables, Started, Arrays, Collections, Mention, Statement, Simply, If, Loop, For, Case, Begin, Module, Block, Empty, Then, Declare, Bind, Otherwise, Else, Elsif, Arms, NoArm, Default, Labelled}
 use Rattle.tu_core.specs.Nodes.{plain_nodes, statement_nodes, taken_nodes}
 use Rattle.tu_core.specs.Rooms.{joins, target_words, open_words}
 use Rattle.tu_meaning.specs.Steps.{Step, give, raise, change, pay, note, Began, take_room, scope, ◌>>=◌, ◌>>◌}

@@ -4,7 +4,11 @@ use Rattle.tu_base.specs.Kind.{kind_number}
 use Rattle.tu_base.specs.declared.kind.Kind.TheVariants as kind
 use Rattle.tu_base.specs.Shapes.{copy_words}
 use Rattle.tu_base.specs.Values.{Number, alone}
-use Rattle.tu_core.specs.Core.{Block, Formal, ByValue, ByCopy, ByVar, Handler, NoHandler, Handles, Result, Nothing, OneValue, OnePlace, Routine, Program}
+use Rattle.tu_core.specs.declared.names.Formal.{Formal}
+use Rattle.tu_core.specs.declared.names.Formal.TheVariants.{ByValue, ByCopy, ByVar}
+use Rattle.tu_core.specs.declared.names.CallResult.{CallResult}
+use Rattle.tu_core.specs.declared.names.CallResult.TheVariants.{Nothing, OneValue, OnePlace}
+use Rattle.tu_core.specs.Core.{Block, Handler, NoHandler, Handles, Routine, Program}
 use Rattle.tu_core.specs.Rooms.{room_of, scalars_of, target_words}
 use Rattle.tu_meaning.specs.Steps.{Step, give, raise, stop, lost, change, pay, turn, take_room, scope, handled, ◌>>=◌, ◌>>◌}
 use Rattle.tu_meaning.specs.Store.{OfActivation, Actual, GivenValue, LentPlace, Passing, holds}
@@ -26,10 +30,10 @@ module _ (S : Type 0) (passing : Passing S) (t : ℕ) (program : Program) (words
     unless_raised line (misfit target [] v)
     pay (1 + copy_words (target_words target))
   receive line (ByValue target) (LentPlace is_var bounds p) = lost
-  receive line (ByCopy shape) (GivenValue bounds v) = lost
-  receive line (ByCopy shape) (LentPlace is_var bounds p) = pay 1
-  receive line (ByVar at) (GivenValue bounds v) = lost
-  receive line (ByVar at) (LentPlace is_var bounds p) = pay 1
+  receive line (ByCopy kind) (GivenValue bounds v) = lost
+  receive line (ByCopy kind) (LentPlace is_var bounds p) = pay 1
+  receive line (ByVar at kind) (GivenValue bounds v) = lost
+  receive line (ByVar at kind) (LentPlace is_var bounds p) = pay 1
 
   abbrev pub receive_all : (line : ℕ) → List Formal → List Actual → Step S (Unit {0})
   receive_all line [] [] = give tt
@@ -46,7 +50,7 @@ module _ (S : Type 0) (passing : Passing S) (t : ℕ) (program : Program) (words
   result_of line Returns = raise kind.Result line
   result_of line (GivesBack back) = give back
 
-  abbrev pub unless_missing : (line : ℕ) → Result → Flow → Step S Back
+  abbrev pub unless_missing : (line : ℕ) → CallResult → Flow → Step S Back
   unless_missing line Nothing flow = give (back_of flow)
   unless_missing line (OneValue target) flow = result_of line flow
   unless_missing line (OnePlace shape) flow = result_of line flow

@@ -15,7 +15,14 @@ use Rattle.tu_base.specs.Texts.{is_width}
 use Rattle.tu_base.specs.Reading.{Source, Reading, reads, after_reading, shown}
 use Rattle.tu_base.specs.Streams.{Outside, put_stream, source_at, with_source}
 use Rattle.tu_base.specs.Heap.{is_live, new_element, without_element}
-use Rattle.tu_core.specs.Core.{Index, Known, Open, Size, Most, AtName, Target, TakesScalar, TakesText, Claim, Asserts, Requires, Ensures, Keeps}
+use Rattle.tu_core.specs.declared.targets.Index.{Index}
+use Rattle.tu_core.specs.declared.targets.Index.TheVariants.{Known, Open}
+use Rattle.tu_core.specs.declared.targets.Size.{Size}
+use Rattle.tu_core.specs.declared.targets.Size.TheVariants.{Most, AtName}
+use Rattle.tu_core.specs.declared.targets.Target.{Target}
+use Rattle.tu_core.specs.declared.targets.Target.TheVariants.{TakesScalar, TakesText}
+use Rattle.tu_core.specs.declared.claim.Claim.{Claim}
+use Rattle.tu_core.specs.declared.claim.Claim.TheVariants.{Asserts, Requires, Ensures, Keeps}
 use Rattle.tu_core.specs.Rooms.{most_of}
 use Rattle.tu_meaning.specs.Steps.{Step, World, give, raise, stop, lost, consult, pay, happen, note, LimitPassed, turn, ◌>>=◌, ◌>>◌}
 

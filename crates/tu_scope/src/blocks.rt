@@ -124,13 +124,11 @@ pub fn walk_statement<'a>(statement: &'a Statement, out: &mut Events<'a>) -> Res
             for x in elsifs.as_slice() {
                 walk_elsif(x, out)?;
             }
-            walk_else(otherwise, out)?;
-            Ok(())
+            walk_else(otherwise, out)
         }
         StatementForm::Loop(invariant, block) => {
             walk_any_invariant(invariant, out)?;
-            walk_block(block, out)?;
-            Ok(())
+            walk_block(block, out)
         }
         StatementForm::For {
             is_decreasing: _,
@@ -141,8 +139,7 @@ pub fn walk_statement<'a>(statement: &'a Statement, out: &mut Events<'a>) -> Res
         } => {
             walk_range(range, out)?;
             begin_for(name, invariant, block, out)?;
-            walk_block(block, out)?;
-            Ok(())
+            walk_block(block, out)
         }
         StatementForm::Case {
             subject,
@@ -153,17 +150,10 @@ pub fn walk_statement<'a>(statement: &'a Statement, out: &mut Events<'a>) -> Res
             for x in arms.as_slice() {
                 walk_arm(x, out)?;
             }
-            walk_last_arm(otherwise, out)?;
-            Ok(())
+            walk_last_arm(otherwise, out)
         }
-        StatementForm::Begin(block) => {
-            walk_block(block, out)?;
-            Ok(())
-        }
-        _ => {
-            walk_simple(&statement.form, out)?;
-            Ok(())
-        }
+        StatementForm::Begin(block) => walk_block(block, out),
+        _ => walk_simple(&statement.form, out),
     }
 }
 

@@ -3,7 +3,10 @@ use Rattle.std.proofs.Common.{None, ◌≡◌, ℕ, true, [], ◌∷◌, codes, 
 use Rattle.std.specs.Fmt.{digits}
 use Rattle.tu_base.specs.declared.kind.Kind.TheVariants as kind
 use Rattle.tu_base.specs.declared.shape.Shape.TheVariants.{Array, Record, Pointer as pointer_shape}
-use Rattle.tu_core.specs.Core.{Given, ByValue, WithValue, Scalar, Global, TakesPointer, ComparePointers, Pointer, Nil, UsePointer, Path, Element, Selectors, End, Field, Absent, APointer, NoneShown, ShowTruth, NoActual, Statement, Simply, Assign, New, Free, Declare, Collections, Empty, Then, Program}
+use Rattle.tu_core.specs.declared.names.Variable.TheVariants.{Global}
+use Rattle.tu_core.specs.declared.names.Formal.TheVariants.{ByValue}
+use Rattle.tu_core.specs.declared.targets.Target.TheVariants.{TakesPointer}
+use Rattle.tu_core.specs.Core.{Given, WithValue, Scalar, ComparePointers, Pointer, Nil, UsePointer, Path, Element, Selectors, End, Field, Absent, APointer, NoneShown, ShowTruth, NoActual, Statement, Simply, Assign, New, Free, Declare, Collections, Empty, Then, Program}
 use Rattle.tu_meaning.specs.Steps.{Began, LimitPassed, ◌>>=◌, give, raise, stop, lost, look, change, consult, pay, happen, note, turn, take_room, scope, handled}
 use Rattle.tu_meaning.specs.Meaning.{Ends, Stops}
 use Rattle.tu_meaning.proofs.rows.Making.{plus, no_files, local, item_at, var_from, from, within, comes, line, on, span, int_shape, int, number, global, global_at, item, show, text, show_text, put, set, call, lent, procedure, by_var, var, program, only}
@@ -132,7 +135,7 @@ row_path_first = refl
 -- r := q
 -- p (C (q), C (r))
 -- Two elements of one collection are the same where their creation numbers are. The path of an element is 3 nodes, and the one test is paid.
-row_same_element : within 9 (with_elements 0 (program (int_shape ∷ (pointer_shape 0 ∷ [])) (1 ∷ (1 ∷ [])) (procedure (by_var ∷ (by_var ∷ [])) [] Empty 3 ∷ [])
+row_same_element : within 9 (with_elements 0 (program (int_shape ∷ (pointer_shape 0 ∷ [])) (1 ∷ (1 ∷ [])) (procedure (by_var 0 ∷ (by_var 0 ∷ [])) [] Empty 3 ∷ [])
     (var 4 1 (Global 0 ∷ (Global 1 ∷ [])) (Then (new 5 (global 0)) (Then (set_pointer 6 (global 1) (pointer 0)) (only (call 7 0 (lent (at_pointer 0 End) (lent (at_pointer 1 End) NoActual))))))))) [] ≡ comes [] (Stops kind.Overlap 7) 24
 unfolding ◌>>=◌ give raise stop lost look change consult pay happen note turn take_room scope handled digits
 row_same_element = refl
@@ -148,7 +151,7 @@ row_same_element = refl
 -- p (C (q) (i), C (r) (SECOND))
 -- put C (r) (1)
 abbrev two_tests : Scalar → Program
-two_tests second = with_elements 1 (program (int_shape ∷ (Array (span 1 2 ∷ []) 0 ∷ (pointer_shape 0 ∷ []))) (2 ∷ (2 ∷ (0 ∷ []))) (procedure (by_var ∷ (by_var ∷ [])) [] (only (set 3 (local 0) (int 8))) 4 ∷ [])
+two_tests second = with_elements 1 (program (int_shape ∷ (Array (span 1 2 ∷ []) 0 ∷ (pointer_shape 0 ∷ []))) (2 ∷ (2 ∷ (0 ∷ []))) (procedure (by_var 0 ∷ (by_var 0 ∷ [])) [] (only (set 3 (local 0) (int 8))) 4 ∷ [])
     (var 5 2 (Global 0 ∷ (Global 1 ∷ [])) (var_from 6 0 (Global 2 ∷ []) (from (int 1)) (Then (new 7 (global 0)) (Then (set_pointer 8 (global 1) (pointer 0))
     (Then (call 9 0 (lent (at_pointer 0 (item_at 1 (number (global 2)))) (lent (at_pointer 1 (item_at 1 second)) NoActual))) (only (put 10 (show (number (at_pointer 1 (item 1 1))) NoneShown)))))))))
 

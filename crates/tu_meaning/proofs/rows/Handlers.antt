@@ -5,7 +5,10 @@ use Rattle.std.specs.Fmt.{digits}
 use Rattle.tu_base.specs.declared.kind.Kind.TheVariants as kind
 use Rattle.tu_base.specs.declared.shape.Shape.TheVariants.{Array}
 use Rattle.tu_base.specs.declared.operator.Binary.TheVariants.{Divide}
-use Rattle.tu_core.specs.Core.{Global, Local, Absent, Present, NoActual, NoneShown, Asserts, Statement, Simply, Quit, Block, Empty, Then, Handles, Declared, Caught, Routine, Program}
+use Rattle.tu_core.specs.declared.names.Variable.TheVariants.{Global, Local}
+use Rattle.tu_core.specs.declared.names.LocalName.TheVariants.{Declared, Caught}
+use Rattle.tu_core.specs.declared.claim.Claim.TheVariants.{Asserts}
+use Rattle.tu_core.specs.Core.{Absent, Present, NoActual, NoneShown, Statement, Simply, Quit, Block, Empty, Then, Handles, Routine, Program}
 use Rattle.tu_meaning.specs.Steps.{Note, Began, LimitPassed, ◌>>=◌, give, raise, stop, lost, look, change, consult, pay, happen, note, turn, take_room, scope, handled}
 use Rattle.tu_meaning.specs.Meaning.{Ends, Stops}
 use Rattle.tu_meaning.specs.Programs.{meaning}
@@ -24,7 +27,7 @@ quit n = Simply (on n) (Quit Absent)
 --   assert false
 -- end q
 abbrev fails : Routine
-fails = procedure (by_var ∷ []) [] (Then (set 3 (local 0) (int 5)) (only (check 4 Asserts (int 0)))) 5
+fails = procedure (by_var 0 ∷ []) [] (Then (set 3 (local 0) (int 5)) (only (check 4 Asserts (int 0)))) 5
 
 -- procedure p (var y : int)
 --   handler (k)
@@ -36,7 +39,7 @@ fails = procedure (by_var ∷ []) [] (Then (set 3 (local 0) (int 5)) (only (chec
 -- end p
 abbrev catches : Statement → Routine
 catches last = handles 7 1 (Then (put 8 (show_text (text (codes "caught ")) (show (number (local 1)) (show_text (text (codes " ")) (show (number (local 0)) NoneShown))))) (only last))
-    (procedure (by_var ∷ []) (Caught ∷ []) (Then (call 11 0 (lent (local 0) NoActual)) (only (put 12 (show_text (text (codes "not here")) NoneShown)))) 13)
+    (procedure (by_var 0 ∷ []) (Caught ∷ []) (Then (call 11 0 (lent (local 0) NoActual)) (only (put 12 (show_text (text (codes "not here")) NoneShown)))) 13)
 
 -- p (g)
 -- put g

@@ -6,11 +6,15 @@ use Rattle.tu_base.specs.Streams.{Folder, with_file}
 use Rattle.tu_base.specs.declared.kind.Kind.TheVariants as kind
 use Rattle.tu_base.specs.declared.shape.Shape.TheVariants.{Scalar as scalar_shape, Text as text_shape}
 use Rattle.tu_base.specs.declared.operator.Binary.TheVariants.{Divide}
-use Rattle.tu_core.specs.Core.{Handles, Caught, NoActual, Repeat, For, FromTo, Counter, Optional, Global, Most, AtEnd, ByteOf, UseText, Path, Absent, Present, Shown, NoneShown, ShowTruth, Taken, NoneTaken, TakeInt, TakeToken, TakeLine, TakeCount, Statement, Simply, Get, Put, OpenStream, Close, Then, Program}
+use Rattle.tu_core.specs.Targets.{ints}
+use Rattle.tu_core.specs.declared.names.Variable.TheVariants.{Global}
+use Rattle.tu_core.specs.declared.names.LocalName.TheVariants.{Caught, Counter}
+use Rattle.tu_core.specs.declared.targets.Size.TheVariants.{Most}
+use Rattle.tu_core.specs.Core.{Handles, NoActual, Repeat, For, FromTo, Optional, AtEnd, ByteOf, UseText, Path, Absent, Present, Shown, NoneShown, ShowTruth, Taken, NoneTaken, TakeInt, TakeToken, TakeLine, TakeCount, Statement, Simply, Get, Put, OpenStream, Close, Then, Program}
 use Rattle.tu_meaning.specs.Steps.{◌>>=◌, give, raise, stop, lost, look, change, consult, pay, happen, note, turn, take_room, scope, handled}
 use Rattle.tu_meaning.specs.Meaning.{Ends, Stops}
 use Rattle.tu_meaning.specs.Programs.{meaning}
-use Rattle.tu_meaning.proofs.rows.Making.{local, call, procedure, Seen, seen_of, within, comes, bytes, line, taken, on, span, ints, int, number, plus, global, show, text, show_text, calculated, put, put_on, var, program, simple, only}
+use Rattle.tu_meaning.proofs.rows.Making.{if_formed, local, call, procedure, Seen, seen_of, within, comes, bytes, line, taken, on, span, int, number, plus, global, show, text, show_text, calculated, put, put_on, var, program, simple, only}
 use Rattle.std.specs.Prelude.{replicate}
 
 abbrev get : (line : ℕ) → Taken → Statement
@@ -40,7 +44,7 @@ abbrev one_file : (name contents : List ℕ) → Option Folder
 one_file name contents = Some (with_file (λ other. None) name contents)
 
 abbrev with_files : Option Folder → Program → Seen
-with_files files p = seen_of (meaning p [] files 9)
+with_files files p = if_formed p (seen_of (meaning p [] files 9))
 
 -- var a, b, c : int
 -- put "numbers: " ..
@@ -210,7 +214,7 @@ row_read_again = refl
 -- put f
 abbrev eleven : Program
 eleven = record (simple (0 ∷ []) [] (var 1 0 (Global 0 ∷ []) (Then (For (on 2) 0 false (FromTo (int 1) (int 11)) None (only (Simply (on 3) (OpenStream ints (global 0) (Repeat 0 (text (codes "a")) (number (local 0))) true))))
-    (only (put 5 (show (number (global 0)) NoneShown)))))) { locals = Counter ∷ [] }
+    (only (put 5 (show (number (global 0)) NoneShown)))))) { locals = Counter ints ∷ [] }
 
 abbrev names : (from count : ℕ) → Trace
 names from zero = []

@@ -1,5 +1,5 @@
 -- Helpers by which the core of a short program reads like its source.
-use Rattle.std.specs.Prelude.{ℕ, true, false, List, [], ◌∷◌, ◌++◌, map, Option, Some, None, pos, neg_ℤ}
+use Rattle.std.specs.Prelude.{ℕ, true, false, List, [], ◌∷◌, ◌++◌, map, Option, Some, None, pos}
 use Rattle.tu_base.specs.Trace.{Trace, Put as put_byte, Got}
 use Rattle.tu_base.specs.Streams.{Folder}
 use Rattle.tu_base.specs.declared.shape.Span.{Span}
@@ -9,8 +9,23 @@ use Rattle.tu_base.specs.declared.operator.Relation.{Relation}
 use Rattle.tu_base.specs.declared.operator.Unary.TheVariants.{Minus}
 use Rattle.tu_base.specs.declared.operator.Binary.{Binary}
 use Rattle.tu_base.specs.declared.operator.Binary.TheVariants.{Add, Subtract, Multiply, Compare}
-use Rattle.tu_core.specs.Core.{At, Variable, Global, Local, Target, TakesScalar, Scalar, Literal, Use, Prefixed, Chain, CallScalar, NoLink, Link, Text, Written, Absent, Path, Name, Selectors, End, Item, NoSubscript, Subscript, Calls, Actuals, Given, Lent, AScalar, Start, WithValue, Shown, ShowInt, ShowText, Claim, Assign, Give, Check, Put, Do, Constant, Variables, Started, Statement, Simply, If, Block, Empty, Then, Declare, Else, Formal, ByValue, ByVar, LocalName, GlobalOf, NoHandler, Result, Nothing, OneValue, Routine, Program}
-use Rattle.tu_meaning.specs.Meaning.{Meant, Standing}
+use Rattle.tu_core.specs.declared.names.At.{At}
+use Rattle.tu_core.specs.declared.names.Variable.{Variable}
+use Rattle.tu_core.specs.declared.names.Variable.TheVariants.{Global, Local}
+use Rattle.tu_core.specs.declared.names.GlobalName.TheVariants.{GlobalOf}
+use Rattle.tu_core.specs.declared.names.LocalName.{LocalName}
+use Rattle.tu_core.specs.declared.names.PlaceKind.TheVariants.{OfShape}
+use Rattle.tu_core.specs.declared.names.Formal.{Formal}
+use Rattle.tu_core.specs.declared.names.Formal.TheVariants.{ByValue, ByVar}
+use Rattle.tu_core.specs.declared.names.CallResult.{CallResult}
+use Rattle.tu_core.specs.declared.names.CallResult.TheVariants.{Nothing, OneValue}
+use Rattle.tu_core.specs.declared.targets.Target.{Target}
+use Rattle.tu_core.specs.declared.targets.Target.TheVariants.{TakesScalar}
+use Rattle.tu_core.specs.declared.claim.Claim.{Claim}
+use Rattle.tu_core.specs.Targets.{ints}
+use Rattle.tu_core.specs.Core.{Scalar, Literal, Use, Prefixed, Chain, CallScalar, NoLink, Link, Text, Written, Absent, Path, Name, Selectors, End, Item, NoSubscript, Subscript, Calls, Actuals, Given, Lent, AScalar, Start, WithValue, Shown, ShowInt, ShowText, Assign, Give, Check, Put, Do, Constant, Variables, Started, Statement, Simply, If, Block, Empty, Then, Declare, Else, NoHandler, Routine, Program}
+use Rattle.tu_core.specs.WellFormed.{is_well_formed}
+use Rattle.tu_meaning.specs.Meaning.{Meant, Standing, IsStuck}
 use Rattle.tu_meaning.specs.Programs.{meaning}
 
 -- The trace, how the run stands, and the units; the log is told where a row is of it.
@@ -25,12 +40,16 @@ no_files = Some (λ name. None)
 abbrev pub seen_of : Meant → Seen
 seen_of m = record { trace = m.trace; standing = m.standing; units = m.units }
 
--- what is seen of a program on an input, with no files, within so many turns
-abbrev pub within : (turns : ℕ) → Program → (input : List ℕ) → Seen
-within turns p input = seen_of (meaning p input no_files turns)
-
 abbrev pub comes : Trace → Standing → (units : ℕ) → Seen
 comes trace standing units = record { trace = trace; standing = standing; units = units }
+
+-- what is seen of a well formed program; another one would be seen as stuck
+abbrev pub if_formed : Program → Seen → Seen
+if_formed p seen = elim (is_well_formed p) [ true ↦ seen | false ↦ comes [] IsStuck 0 ]
+
+-- what is seen of a program on an input, with no files, within so many turns
+abbrev pub within : (turns : ℕ) → Program → (input : List ℕ) → Seen
+within turns p input = if_formed p (seen_of (meaning p input no_files turns))
 
 -- what the console gets, and the same with a line end behind it
 abbrev pub bytes : List ℕ → Trace
@@ -49,9 +68,6 @@ on n = record { start = 0; line = n }
 
 abbrev pub span : (low high : ℕ) → Span
 span low high = record { low = pos low; high = pos high }
-
-abbrev pub ints : Span
-ints = record { low = neg_ℤ (pos 2147483647); high = pos 2147483647 }
 
 abbrev pub int_shape : Shape
 int_shape = scalar_shape ints
@@ -164,8 +180,8 @@ abbrev pub constant : (line : ℕ) → Variable → Start → Block → Block
 constant n x start more = Declare (on n) (Constant (record { name = x; start = start })) more
 
 -- subprograms without handlers, by their formals, the locals behind these, their blocks and the line of their end
-abbrev pub routine : Result → List Formal → List LocalName → (before body after : Block) → (end_line : ℕ) → Routine
-routine answers formals locals before body after end_line = record { gives = answers; is_invariant = false; result = None; formals = formals; stars = 0; locals = locals; temporaries = []; before = before; body = body; handler = NoHandler; after = after; end_line = end_line; fixed = []; fixed_collections = [] }
+abbrev pub routine : CallResult → List Formal → List LocalName → (before body after : Block) → (end_line : ℕ) → Routine
+routine answers formals locals before body after end_line = record { gives = answers; is_invariant = false; result = None; formals = formals; stars = 0; locals = locals; before = before; body = body; handler = NoHandler; after = after; end_line = end_line; fixed = []; fixed_collections = [] }
 
 abbrev pub procedure : List Formal → List LocalName → (body : Block) → (end_line : ℕ) → Routine
 procedure formals locals body end_line = routine Nothing formals locals Empty body Empty end_line
@@ -176,12 +192,13 @@ function formals locals body end_line = routine (OneValue an_int) formals locals
 abbrev pub by_value : Formal
 by_value = ByValue an_int
 
-abbrev pub by_var : Formal
-by_var = ByVar (on 0)
+-- of a place of a shape
+abbrev pub by_var : (shape : ℕ) → Formal
+by_var n = ByVar (on 0) (OfShape n)
 
 -- a program by its shapes, its globals by their shapes, its subprograms, and its text
 abbrev pub program : List Shape → List ℕ → List Routine → Block → Program
-program shapes globals routines main = record { shapes = shapes; globals = map GlobalOf globals; collections = []; routines = routines; locals = []; temporaries = []; main = main }
+program shapes globals routines main = record { shapes = shapes; globals = map GlobalOf globals; collections = []; routines = routines; locals = []; main = main }
 
 -- of ints alone
 abbrev pub simple : List ℕ → List Routine → Block → Program

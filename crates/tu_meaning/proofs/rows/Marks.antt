@@ -8,10 +8,18 @@ use Rattle.tu_base.specs.declared.shape.Shape.TheVariants.{Text as text_shape, A
 use Rattle.tu_base.specs.declared.operator.Relation.TheVariants.{Greater, GreaterOrEqual, LessOrEqual}
 use Rattle.tu_base.specs.declared.operator.Binary.TheVariants.{Divide}
 use Rattle.tu_base.specs.declared.operator.Junction.TheVariants.{And}
-use Rattle.tu_core.specs.Core.{Target, Call, Scalar, Optional, Path, Global, Most, TakesScalar, TakesText, Chain, NoLink, Decide, AtEnd, CallScalar, Text, UseText, Calls, Actuals, NoActual, Given, AText, AScalar, Absent, Present, End, Field, NoneShown, ShowInt, ShowText, NoneTaken, TakeInt, TakeToken, Requires, Keeps, Statement, Simply, Exit, Give, Do, Get, Put, Assign, OpenStream, Close, If, Loop, Case, Module, Block, Empty, Then, Else, Elsif, Default, Labelled, ByValue, OneValue, Routine, Program}
+use Rattle.tu_core.specs.Targets.{ints}
+use Rattle.tu_core.specs.declared.names.Variable.TheVariants.{Global}
+use Rattle.tu_core.specs.declared.names.Formal.TheVariants.{ByValue}
+use Rattle.tu_core.specs.declared.names.CallResult.TheVariants.{OneValue}
+use Rattle.tu_core.specs.declared.targets.Size.TheVariants.{Most}
+use Rattle.tu_core.specs.declared.targets.Target.{Target}
+use Rattle.tu_core.specs.declared.targets.Target.TheVariants.{TakesScalar, TakesText}
+use Rattle.tu_core.specs.declared.claim.Claim.TheVariants.{Requires, Keeps}
+use Rattle.tu_core.specs.Core.{Call, Scalar, Optional, Path, Chain, NoLink, Decide, AtEnd, CallScalar, Text, UseText, Calls, Actuals, NoActual, Given, AText, AScalar, Absent, Present, End, Field, NoneShown, ShowInt, ShowText, NoneTaken, TakeInt, TakeToken, Statement, Simply, Exit, Give, Do, Get, Put, Assign, OpenStream, Close, If, Loop, Case, Module, Block, Empty, Then, Else, Elsif, Default, Labelled, Routine, Program}
 use Rattle.tu_meaning.specs.Steps.{◌>>=◌, give, raise, stop, lost, look, change, consult, pay, happen, note, turn, take_room, scope, handled}
 use Rattle.tu_meaning.specs.Meaning.{Ends}
-use Rattle.tu_meaning.proofs.rows.Making.{within, comes, line, taken, on, span, ints, int_shape, int, minus, number, plus, calculated, compare, global, local, global_at, item_at, show, text, show_text, put, set, if_then, check, gives, var, var_from, from, routine, procedure, function, by_value, program, only}
+use Rattle.tu_meaning.proofs.rows.Making.{within, comes, line, taken, on, span, int_shape, int, minus, number, plus, calculated, compare, global, local, global_at, item_at, show, text, show_text, put, set, if_then, check, gives, var, var_from, from, routine, procedure, function, by_value, program, only}
 use Rattle.tu_core.specs.Rooms.{room_of}
 use Rattle.tu_base.specs.Shapes.{all_words}
 

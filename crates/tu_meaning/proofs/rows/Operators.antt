@@ -10,7 +10,9 @@ use Rattle.tu_base.specs.declared.operator.Unary.TheVariants.{Plus, Absolute, Su
 use Rattle.tu_base.specs.declared.operator.Binary.TheVariants.{Divide, Power, Least, Greatest}
 use Rattle.tu_base.specs.declared.operator.Junction.{Junction}
 use Rattle.tu_base.specs.declared.operator.Junction.TheVariants.{Or, Implies}
-use Rattle.tu_core.specs.Core.{Scalar, Global, Known, Prefixed, Chain, NoLink, Decide, CompareTexts, CompareSets, Bound, AtEnd, Character, SetOf, NoScalar, AndScalar, Field, VariantField, End, Absent, Present, Shown, NoneShown, ShowInt, ShowText, ShowTruth, Simply, Tag, Close, Block, Then, Program}
+use Rattle.tu_core.specs.declared.names.Variable.TheVariants.{Global}
+use Rattle.tu_core.specs.declared.targets.Index.TheVariants.{Known}
+use Rattle.tu_core.specs.Core.{Scalar, Prefixed, Chain, NoLink, Decide, CompareTexts, CompareSets, Bound, AtEnd, Character, SetOf, NoScalar, AndScalar, Field, VariantField, End, Absent, Present, Shown, NoneShown, ShowInt, ShowText, ShowTruth, Simply, Tag, Close, Block, Then, Program}
 use Rattle.tu_meaning.specs.Steps.{◌>>=◌, give, raise, stop, lost, look, change, consult, pay, happen, note, turn, take_room, scope, handled}
 use Rattle.tu_meaning.specs.Meaning.{Ends, Stops}
 use Rattle.tu_meaning.proofs.rows.Making.{Seen, within, comes, bytes, line, on, span, int_shape, int, minus, number, calculated, compare, global, global_at, show, text, show_text, put, set, var, program, simple, only}

@@ -8,7 +8,17 @@ use Rattle.tu_base.specs.declared.kind.Kind.TheVariants as kind
 use Rattle.tu_base.specs.declared.shape.Shape.TheVariants.{Array, Text as text_shape}
 use Rattle.tu_base.specs.declared.operator.Relation.TheVariants.{Greater}
 use Rattle.tu_base.specs.declared.operator.Binary.TheVariants.{Divide}
-use Rattle.tu_core.specs.Core.{Global, Local, TakesScalar, TakesText, AtName, Open, Bound, OpenItem, End, NoSubscript, Subscript, Absent, WithParts, AndStart, NoStart, AText, NoActual, Lent, NoneShown, FromTo, Asserts, Simply, Assign, For, Begin, Empty, Then, Bind, Declared, BoundName, Counter, Caught, Formal, ByValue, ByCopy, Handles, Routine, Program}
+use Rattle.tu_core.specs.Targets.{ints}
+use Rattle.tu_core.specs.declared.names.PlaceKind.TheVariants.{AnyText, AnyArray}
+use Rattle.tu_core.specs.declared.names.Variable.TheVariants.{Global, Local}
+use Rattle.tu_core.specs.declared.names.LocalName.TheVariants.{Declared, BoundName, Counter, Caught}
+use Rattle.tu_core.specs.declared.names.Formal.{Formal}
+use Rattle.tu_core.specs.declared.names.Formal.TheVariants.{ByValue, ByCopy, ByVar}
+use Rattle.tu_core.specs.declared.targets.Index.TheVariants.{Open}
+use Rattle.tu_core.specs.declared.targets.Size.TheVariants.{AtName}
+use Rattle.tu_core.specs.declared.targets.Target.TheVariants.{TakesScalar, TakesText}
+use Rattle.tu_core.specs.declared.claim.Claim.TheVariants.{Asserts}
+use Rattle.tu_core.specs.Core.{Bound, OpenItem, End, NoSubscript, Subscript, Absent, WithParts, AndStart, NoStart, AText, NoActual, Lent, NoneShown, FromTo, Simply, Assign, For, Begin, Empty, Then, Bind, Handles, Routine, Program}
 use Rattle.tu_core.specs.Rooms.{main_room, room_of}
 use Rattle.tu_meaning.specs.Steps.{◌>>=◌, give, raise, stop, lost, look, change, consult, pay, happen, note, turn, take_room, scope, handled}
 use Rattle.tu_meaning.specs.Meaning.{Ends, Stops}
@@ -33,7 +43,7 @@ bound = record (program two_ints (1 ∷ (0 ∷ [])) []
     (var_from 1 1 (Global 0 ∷ []) (WithParts 1 (AndStart (from (int 1)) (AndStart (from (int 2)) NoStart))) (var_from 2 0 (Global 1 ∷ []) (from (int 2))
     (Then (Begin (on 3) (Bind (on 4) 0 true (global_at 0 (item_at 1 (number (global 1)))) (Then (set 5 (global 1) (int 1)) (only (set 6 (local 0) (int 9))))))
     (only (put 8 (show (number (global_at 0 (item 1 1))) (show_text (text (codes " ")) (show (number (global_at 0 (item 1 2))) NoneShown)))))))))
-    { locals = BoundName true ∷ [] }
+    { locals = BoundName 0 ∷ [] }
 
 -- The path of a bind is evaluated once. Line 1: 3, 3 and two words. Line 2: 3. Line 3: the statement, and a join, since x is changed. Line 4: the
 -- name and a path of 3. Lines 5 and 6: 3 each. Line 8: 1 + 36 + 3 + 36 + 1.
@@ -51,7 +61,7 @@ room_bound = refl
 -- The statement has two joins: x is changed, and so is y, the root of a `bind var`. Line 1: 3. Line 2: 3, two names and two roots, an assignment of
 -- 3. Line 3: 36.
 row_bound_twice : within 9 (record (simple (0 ∷ []) [] (var_from 1 0 (Global 0 ∷ []) (from (int 1))
-    (Then (Begin (on 2) (Bind (on 2) 0 true (global 0) (Bind (on 2) 1 true (local 0) (only (set 2 (local 1) (int 7)))))) (only (put 3 (show (number (global 0)) NoneShown)))))) { locals = BoundName true ∷ (BoundName true ∷ []) }) [] ≡ comes (line (codes "7")) Ends 49
+    (Then (Begin (on 2) (Bind (on 2) 0 true (global 0) (Bind (on 2) 1 true (local 0) (only (set 2 (local 1) (int 7)))))) (only (put 3 (show (number (global 0)) NoneShown)))))) { locals = BoundName 0 ∷ (BoundName 0 ∷ []) }) [] ≡ comes (line (codes "7")) Ends 49
 unfolding ◌>>=◌ give raise stop lost look change consult pay happen note turn take_room scope handled digits
 row_bound_twice = refl
 
@@ -69,7 +79,7 @@ row_bound_twice = refl
 -- p
 -- A bind is copied back where an exception leaves its scope. Line 1: 3. Line 12: the statement, a turn, the handler 2; `begin` and its join 2, the
 -- name and the root 2, 3, 2; the taking 1; line 4 with 2 nodes, 32 and two bytes.
-row_bound_left : within 9 (simple (0 ∷ []) (record (procedure [] (Caught ∷ (BoundName true ∷ []))
+row_bound_left : within 9 (simple (0 ∷ []) (record (procedure [] (Caught ∷ (BoundName 0 ∷ []))
     (only (Begin (on 6) (Bind (on 7) 1 true (global 0) (Then (set 8 (local 1) (int 7)) (only (check 9 Asserts (int 0))))))) 11) { handler = Handles (on 3) 0 (only (put 4 (show (number (global 0)) NoneShown))) } ∷ [])
     (var_from 1 0 (Global 0 ∷ []) (from (int 1)) (only (call 12 0 NoActual)))) [] ≡ comes (line (codes "7")) Ends 53
 unfolding ◌>>=◌ give raise stop lost look change consult pay happen note turn take_room scope handled digits
@@ -84,7 +94,7 @@ row_bound_left = refl
 -- end total
 -- The formal is a location; t is local 1, and i local 2.
 abbrev pub total : Routine
-total = record (function (ByCopy 1 ∷ []) (Declared 0 ∷ (Counter ∷ [])) (var_from 2 0 (Local 1 ∷ []) (from (int 0))
+total = record (function (ByCopy (AnyArray (Open (pos 1) ∷ []) 0) ∷ []) (Declared 0 ∷ (Counter ints ∷ [])) (var_from 2 0 (Local 1 ∷ []) (from (int 0))
     (Then (For (on 3) 2 false (FromTo (int 1) (Bound 0 true (Open (pos 1) ∷ []) (local 0) Absent)) None
     (only (set 4 (local 1) (plus (number (local 1)) (number (OpenItem (on 4) (Local 0) (Open (pos 1) ∷ []) (Subscript None (number (local 2)) NoSubscript) End))))))
     (only (gives 6 (number (local 1)))))) 7) { stars = 1 }
@@ -114,7 +124,7 @@ row_totalled = refl
 -- set (t)
 -- The size of an open formal is that of its actual. Line 4: the name and two words. Line 5: 2 nodes, a turn, a formal; the statement, the path and
 -- the literal 3.
-row_open_size : within 9 (program (text_shape 2 ∷ []) (0 ∷ []) (procedure (by_var ∷ []) [] (only (Simply (on 2) (Assign (TakesText AtName) (local 0) (AText (text (codes "abc")))))) 3 ∷ [])
+row_open_size : within 9 (program (text_shape 2 ∷ []) (0 ∷ []) (procedure (ByVar (on 0) AnyText ∷ []) [] (only (Simply (on 2) (Assign (TakesText AtName) (local 0) (AText (text (codes "abc")))))) 3 ∷ [])
     (var 4 0 (Global 0 ∷ []) (only (call 5 0 (Lent (on 5) true (Some (pos 2 ∷ [])) (global 0) NoActual))))) [] ≡ comes [] (Stops kind.StringSize 2) 10
 unfolding ◌>>=◌ give raise stop lost look change consult pay happen note turn take_room scope handled digits
 row_open_size = refl
@@ -130,7 +140,7 @@ row_open_size = refl
 -- put b (1)
 abbrev handed_on : Program
 handed_on = program (int_shape ∷ (Array (span 1 1000 ∷ []) 0 ∷ [])) (1 ∷ [])
-    (procedure (by_var ∷ (by_value ∷ [])) [] (Then (set 2 (local_at 0 (item 1 1)) (number (local 1)))
+    (procedure (by_var 1 ∷ (by_value ∷ [])) [] (Then (set 2 (local_at 0 (item 1 1)) (number (local 1)))
     (only (if_then 3 (compare Greater (number (local 1)) (int 1)) (only (call 4 0 (lent (local 0) (given (less (number (local 1)) (int 1)) NoActual))))))) 6 ∷ [])
     (var 7 1 (Global 0 ∷ []) (Then (call 8 0 (lent (global 0) (given (int 10) NoActual))) (only (put 9 (show (number (global_at 0 (item 1 1))) NoneShown)))))
 
@@ -149,8 +159,8 @@ row_handed_on = refl
 -- end for
 -- put a (1)
 -- 1001, then 3, ten rounds of 10 (a turn, 2 nodes, the turn of the call, a formal, the assignment 5), and 38
-row_touched : within 30 (record (program (int_shape ∷ (Array (span 1 1000 ∷ []) 0 ∷ [])) (1 ∷ []) (procedure (by_var ∷ []) [] (only (set 3 (local_at 0 (item 1 1)) (int 1))) 4 ∷ [])
-    (var 1 1 (Global 0 ∷ []) (Then (For (on 5) 0 false (FromTo (int 1) (int 10)) None (only (call 6 0 (lent (global 0) NoActual)))) (only (put 8 (show (number (global_at 0 (item 1 1))) NoneShown)))))) { locals = Counter ∷ [] }) [] ≡ comes (line (codes "1")) Ends 1142
+row_touched : within 30 (record (program (int_shape ∷ (Array (span 1 1000 ∷ []) 0 ∷ [])) (1 ∷ []) (procedure (by_var 1 ∷ []) [] (only (set 3 (local_at 0 (item 1 1)) (int 1))) 4 ∷ [])
+    (var 1 1 (Global 0 ∷ []) (Then (For (on 5) 0 false (FromTo (int 1) (int 10)) None (only (call 6 0 (lent (global 0) NoActual)))) (only (put 8 (show (number (global_at 0 (item 1 1))) NoneShown)))))) { locals = Counter ints ∷ [] }) [] ≡ comes (line (codes "1")) Ends 1142
 unfolding ◌>>=◌ give raise stop lost look change consult pay happen note turn take_room scope handled digits
 row_touched = refl
 
@@ -164,7 +174,7 @@ row_touched = refl
 -- put a (1), a (2)
 -- The path of an actual is evaluated once, also for the copying back. Line 1: 3. Line 2: 3, 3 and two words. Line 7: the statement and a path of 3,
 -- a turn, a formal, two assignments of 3. Line 8: 1 + 36 + 36 + 1.
-row_path_once : within 9 (program two_ints (0 ∷ (1 ∷ [])) (procedure (by_var ∷ []) [] (Then (set 4 (global 0) (int 2)) (only (set 5 (local 0) (int 9)))) 6 ∷ [])
+row_path_once : within 9 (program two_ints (0 ∷ (1 ∷ [])) (procedure (by_var 0 ∷ []) [] (Then (set 4 (global 0) (int 2)) (only (set 5 (local 0) (int 9)))) 6 ∷ [])
     (var_from 1 0 (Global 0 ∷ []) (from (int 1)) (var_from 2 1 (Global 1 ∷ []) (WithParts 1 (AndStart (from (int 3)) (AndStart (from (int 4)) NoStart)))
     (Then (call 7 0 (lent (global_at 1 (item_at 1 (number (global 0)))) NoActual)) (only (put 8 (show (number (global_at 1 (item 1 1))) (show (number (global_at 1 (item 1 2))) NoneShown)))))))) [] ≡ comes (line (codes "94")) Ends 97
 unfolding ◌>>=◌ give raise stop lost look change consult pay happen note turn take_room scope handled digits

@@ -5,11 +5,23 @@ use Rattle.std.specs.Fmt.{digits}
 use Rattle.tu_base.specs.Shapes.{all_words}
 use Rattle.tu_base.specs.declared.kind.Kind.TheVariants as kind
 use Rattle.tu_base.specs.declared.shape.Shape.TheVariants.{Record}
-use Rattle.tu_core.specs.Core.{For, FromTo, Counter, Variable, Scalar, Call, Calls, Global, Local, AtName, TakesText, Open, Index, Bound, Length, UseText, Path, OpenItem, ResultOf, End, Field, NoSubscript, Subscript, NoScalar, AndScalar, Absent, AText, NoActual, Given, Lent, NoneShown, WithCopy, GiveCopy, Simply, Declare, Arrays, Empty, Then, ByValue, Declared, DeclaredArray, GlobalOf, GlobalArray, OnePlace, Routine, Program}
+use Rattle.tu_core.specs.Targets.{ints}
+use Rattle.tu_core.specs.declared.names.PlaceKind.TheVariants.{AnyArray}
+use Rattle.tu_core.specs.declared.names.Variable.{Variable}
+use Rattle.tu_core.specs.declared.names.Variable.TheVariants.{Global, Local}
+use Rattle.tu_core.specs.declared.names.GlobalName.TheVariants.{GlobalOf, GlobalArray}
+use Rattle.tu_core.specs.declared.names.LocalName.TheVariants.{Counter, Declared, DeclaredArray}
+use Rattle.tu_core.specs.declared.names.Formal.TheVariants.{ByValue, ByVar}
+use Rattle.tu_core.specs.declared.names.CallResult.TheVariants.{OnePlace}
+use Rattle.tu_core.specs.declared.targets.Index.{Index}
+use Rattle.tu_core.specs.declared.targets.Index.TheVariants.{Open}
+use Rattle.tu_core.specs.declared.targets.Size.TheVariants.{AtName}
+use Rattle.tu_core.specs.declared.targets.Target.TheVariants.{TakesText}
+use Rattle.tu_core.specs.Core.{For, FromTo, Scalar, Call, Calls, Bound, Length, UseText, Path, OpenItem, ResultOf, End, Field, NoSubscript, Subscript, NoScalar, AndScalar, Absent, AText, NoActual, Given, Lent, NoneShown, WithCopy, GiveCopy, Simply, Declare, Arrays, Empty, Then, Routine, Program}
 use Rattle.tu_core.specs.Rooms.{room_of}
 use Rattle.tu_meaning.specs.Steps.{◌>>=◌, give, raise, stop, lost, look, change, consult, pay, happen, note, turn, take_room, scope, handled}
 use Rattle.tu_meaning.specs.Meaning.{Ends, Stops}
-use Rattle.tu_meaning.proofs.rows.Making.{times, within, comes, line, on, int_shape, int, number, plus, global, local, global_at, local_at, show, text, show_text, put, set, call, given, var, var_from, from, routine, procedure, by_value, by_var, program, simple, only}
+use Rattle.tu_meaning.proofs.rows.Making.{times, within, comes, line, on, int_shape, int, number, plus, global, local, global_at, local_at, show, text, show_text, put, set, call, given, var, var_from, from, routine, procedure, by_value, program, simple, only}
 
 -- type R : record
 --   x : int
@@ -32,9 +44,9 @@ making l n = Calls (on l) 0 None (given (int n) NoActual)
 -- var s : R := f (5)
 -- put s.x
 abbrev results : Program
-results = record (program (int_shape ∷ (Record (0 ∷ (0 ∷ [])) ∷ [])) (1 ∷ []) (made ∷ [])
+results = program (int_shape ∷ (Record (0 ∷ (0 ∷ [])) ∷ [])) (1 ∷ []) (made ∷ [])
     (Then (put 11 (show (number (ResultOf (on 11) 0 (making 11 4) (Field 1 1 End))) NoneShown))
-    (var_from 12 1 (Global 0 ∷ []) (WithCopy 1 (ResultOf (on 12) 1 (making 12 5) End)) (only (put 13 (show (number (global_at 0 (Field 1 0 End))) NoneShown)))))) { temporaries = 1 ∷ (1 ∷ []) }
+    (var_from 12 1 (Global 0 ∷ []) (WithCopy 1 (ResultOf (on 12) 1 (making 12 5) End)) (only (put 13 (show (number (global_at 0 (Field 1 0 End))) NoneShown)))))
 
 -- A call: a turn, a formal, r and its words 3, 4, 6, and `result` and its value 2 and two words, which is 19. Line 11: the statement, the call and
 -- its actual, 19, the selector, 32 and two bytes. Line 12: the name and its words 3, the call and its actual, 19, a copy of two words. Line 13: 37.
@@ -97,7 +109,7 @@ row_given_back = refl
 -- end for
 -- A block in a loop ends with each round. `for` and its bounds 3; a round has a turn, the name and its bound of 3 nodes, two words and those of the
 -- elements.
-row_each_round : within 9 (record (simple [] [] (only (For (on 1) 0 false (FromTo (int 1) (int 2)) None (Declare (on 2) (Arrays (Global 0 ∷ []) from_one 0 (AndScalar (times (number (local 0)) (int 4000000)) NoScalar)) Empty)))) { globals = GlobalArray from_one 0 ∷ []; locals = Counter ∷ [] }) [] ≡ comes [] Ends 12000017
+row_each_round : within 9 (record (simple [] [] (only (For (on 1) 0 false (FromTo (int 1) (int 2)) None (Declare (on 2) (Arrays (Global 0 ∷ []) from_one 0 (AndScalar (times (number (local 0)) (int 4000000)) NoScalar)) Empty)))) { globals = GlobalArray from_one 0 ∷ []; locals = Counter ints ∷ [] }) [] ≡ comes [] Ends 12000017
 unfolding ◌>>=◌ give raise stop lost look change consult pay happen note turn take_room scope handled digits
 row_each_round = refl
 
@@ -110,7 +122,7 @@ row_each_round = refl
 -- put a (2)
 -- put a (3)
 abbrev filled : Program
-filled = record (simple [] (record (procedure (by_var ∷ []) [] (only (set 4 (element (Local 0) (Bound 0 true from_one (local 0) Absent)) (int 7))) 5) { stars = 1 } ∷ [])
+filled = record (simple [] (record (procedure (ByVar (on 6) (AnyArray from_one 0) ∷ []) [] (only (set 4 (element (Local 0) (Bound 0 true from_one (local 0) Absent)) (int 7))) 5) { stars = 1 } ∷ [])
     (var_from 1 0 (Global 0 ∷ []) (from (int 2)) (Declare (on 2) (Arrays (Global 1 ∷ []) from_one 0 (AndScalar (number (global 0)) NoScalar))
     (Then (call 6 0 (Lent (on 6) true None (global 1) NoActual)) (Then (put 7 (show (number (element (Global 1) (int 2))) NoneShown)) (only (put 8 (show (number (element (Global 1) (int 3))) NoneShown)))))))) { globals = GlobalOf 0 ∷ (GlobalArray from_one 0 ∷ []) }
 

@@ -9,7 +9,11 @@ use Rattle.tu_base.specs.declared.operator.Relation.TheVariants.{Equal, Greater}
 use Rattle.tu_base.specs.declared.operator.Unary.TheVariants.{Plus}
 use Rattle.tu_base.specs.declared.operator.Binary.TheVariants.{Divide, Modulo}
 use Rattle.tu_base.specs.declared.operator.Junction.TheVariants.{And}
-use Rattle.tu_core.specs.Core.{Put, Global, TakesScalar, Prefixed, Chain, NoLink, Decide, Absent, Present, WithValue, AScalar, FromTo, NoneShown, ShowInt, ShowTruth, Exit, Simply, Loop, For, Case, Empty, Then, Default, Labelled, Counter, Program}
+use Rattle.tu_core.specs.Targets.{ints}
+use Rattle.tu_core.specs.declared.names.Variable.TheVariants.{Global}
+use Rattle.tu_core.specs.declared.names.LocalName.TheVariants.{Counter}
+use Rattle.tu_core.specs.declared.targets.Target.TheVariants.{TakesScalar}
+use Rattle.tu_core.specs.Core.{Put, Prefixed, Chain, NoLink, Decide, Absent, Present, WithValue, AScalar, FromTo, NoneShown, ShowInt, ShowTruth, Exit, Simply, Loop, For, Case, Empty, Then, Default, Labelled, Program}
 use Rattle.tu_meaning.specs.Steps.{Began, ◌>>=◌, give, raise, stop, lost, look, change, consult, pay, happen, note, turn, take_room, scope, handled}
 use Rattle.tu_meaning.specs.Meaning.{Ends, Stops, GoesOn}
 use Rattle.tu_meaning.specs.Programs.{meaning}
@@ -138,7 +142,7 @@ abbrev cases : Program
 cases = record (program (int_shape ∷ (scalar_shape (span 0 1) ∷ [])) (1 ∷ []) [] (var_from 2 1 (Global 0 ∷ []) (WithValue (TakesScalar (span 0 1)) (AScalar (int 1)))
     (Then (Case (on 3) (number (global 0)) (Labelled (pos 0 ∷ []) (only (put 4 (show (int 1) NoneShown))) (Default (only (put 5 (show (Prefixed 0 (Plus ∷ []) (number (global 0))) NoneShown))))))
     (Then (For (on 7) 0 true (FromTo (int 3) (int 1)) None (only (put_on 8 (ShowInt (number (local 0)) (Present (int 3)) NoneShown))))
-    (only (put 10 (show_text (text []) NoneShown))))))) { locals = Counter ∷ [] }
+    (only (put 10 (show_text (text []) NoneShown))))))) { locals = Counter ints ∷ [] }
 
 -- The declaration 3. `case`, its value, a label and an arm 4, the arm's line 3 + 32 + 2. `for` and its bounds 3, three rounds of 39: a turn,
 -- 3 nodes, 32, three bytes. The last line 3.
@@ -165,7 +169,7 @@ row_out_of_range = refl
 -- end for
 abbrev bounds_once : Program
 bounds_once = record (simple (0 ∷ []) [] (var_from 1 0 (Global 0 ∷ []) (from (int 2))
-    (only (For (on 2) 0 false (FromTo (int 1) (number (global 0))) None (Then (set 3 (global 0) (int 3)) (only (put 4 (show (number (local 0)) NoneShown)))))))) { locals = Counter ∷ [] }
+    (only (For (on 2) 0 false (FromTo (int 1) (number (global 0))) None (Then (set 3 (global 0) (int 3)) (only (put 4 (show (number (local 0)) NoneShown)))))))) { locals = Counter ints ∷ [] }
 
 -- It would fail if the bounds were evaluated each round. The declaration 3, `for` and its bounds 3, two rounds of 1 + 3 + 36.
 row_bounds_once : within 9 bounds_once [] ≡ comes (line (codes "1") ++ line (codes "2")) Ends 86
@@ -175,7 +179,7 @@ row_bounds_once = refl
 -- for i : 2 .. 1
 --   put i
 -- end for
-row_no_round : within 9 (record (simple [] [] (only (For (on 1) 0 false (FromTo (int 2) (int 1)) None (only (put 2 (show (number (local 0)) NoneShown)))))) { locals = Counter ∷ [] }) [] ≡ comes [] Ends 3
+row_no_round : within 9 (record (simple [] [] (only (For (on 1) 0 false (FromTo (int 2) (int 1)) None (only (put 2 (show (number (local 0)) NoneShown)))))) { locals = Counter ints ∷ [] }) [] ≡ comes [] Ends 3
 unfolding ◌>>=◌ give raise stop lost look change consult pay happen note turn take_room scope handled digits
 row_no_round = refl
 
@@ -198,7 +202,7 @@ row_decided_left = refl
 abbrev unset_again : Program
 unset_again = record (simple (0 ∷ []) [] (only (For (on 1) 0 false (FromTo (int 1) (int 2)) None (var 2 0 (Global 0 ∷ [])
     (Then (if_then 3 (compare Equal (number (local 0)) (int 2)) (only (put 4 (show (number (global 0)) NoneShown))))
-    (only (set 6 (global 0) (number (local 0))))))))) { locals = Counter ∷ [] }
+    (only (set 6 (global 0) (number (local 0))))))))) { locals = Counter ints ∷ [] }
 
 -- It would fail if a declaration did not unset. `for` and its bounds 3. Round 1: a turn, the name and its word, `if` 4, the assignment 3. Round
 -- 2: a turn, 2, 4, and the statement and the name.

@@ -7,7 +7,10 @@ use Rattle.tu_base.specs.declared.kind.Kind.TheVariants as kind
 use Rattle.tu_base.specs.declared.operator.Relation.TheVariants.{Equal, Less, Greater}
 use Rattle.tu_base.specs.declared.operator.Unary.TheVariants.{Plus}
 use Rattle.tu_base.specs.declared.operator.Binary.TheVariants.{Divide}
-use Rattle.tu_core.specs.Core.{Scalar, Global, Local, Prefixed, Absent, Present, Through, NoActual, NoneShown, Asserts, Requires, Ensures, Keeps, Exit, Return, Simply, Loop, For, Case, Declare, InitClause, Empty, Then, Labelled, NoArm, Handles, Declared, Counter, Caught, ResultName, Routine, Program}
+use Rattle.tu_core.specs.declared.names.Variable.TheVariants.{Global, Local}
+use Rattle.tu_core.specs.declared.names.LocalName.TheVariants.{Declared, Counter, Caught, ResultName}
+use Rattle.tu_core.specs.declared.claim.Claim.TheVariants.{Asserts, Requires, Ensures, Keeps}
+use Rattle.tu_core.specs.Core.{Scalar, Prefixed, Absent, Present, Through, NoActual, NoneShown, Exit, Return, Simply, Loop, For, Case, Declare, InitClause, Empty, Then, Labelled, NoArm, Handles, Routine, Program}
 use Rattle.tu_core.specs.Rooms.{room_of}
 use Rattle.tu_meaning.specs.Steps.{◌>>=◌, give, raise, stop, lost, look, change, consult, pay, happen, note, turn, take_room, scope, handled}
 use Rattle.tu_meaning.specs.Meaning.{Ends, Stops}
@@ -122,7 +125,7 @@ row_joins = refl
 --   put ord (d) ..
 -- end for
 -- The bounds of a type are no nodes: `for` 1, three rounds of a turn, 3 nodes, 32 and a byte.
-row_through : within 9 (record (simple [] [] (only (For (on 2) 0 true (Through (span 0 2)) None (only (put_on 3 (show (Prefixed 0 (Plus ∷ []) (number (local 0))) NoneShown)))))) { locals = Counter ∷ [] }) [] ≡ comes (bytes (codes "210")) Ends 112
+row_through : within 9 (record (simple [] [] (only (For (on 2) 0 true (Through (span 0 2)) None (only (put_on 3 (show (Prefixed 0 (Plus ∷ []) (number (local 0))) NoneShown)))))) { locals = Counter (span 0 2) ∷ [] }) [] ≡ comes (bytes (codes "210")) Ends 112
 unfolding ◌>>=◌ give raise stop lost look change consult pay happen note turn take_room scope handled digits
 row_through = refl
 

@@ -7,7 +7,11 @@ use Rattle.tu_base.specs.declared.kind.Kind.TheVariants as kind
 use Rattle.tu_base.specs.declared.shape.Shape.TheVariants.{Scalar as scalar_shape, Array, Record, Union, Set as set_shape}
 use Rattle.tu_base.specs.declared.operator.Binary.TheVariants.{Divide}
 use Rattle.tu_base.specs.declared.operator.Combination.TheVariants.{Union as joined, Difference}
-use Rattle.tu_core.specs.Core.{Path, Scalar, Selectors, GlobalOf, Global, TakesScalar, TakesSet, Open, Bound, Member, Set, SetOf, UseSet, Combined, NoSet, AndSet, NoScalar, AndScalar, End, Field, VariantField, Item, NoSubscript, Subscript, Absent, WithValue, WithParts, AndStart, NoStart, AScalar, ASet, NoneShown, ShowTruth, Simply, Assign, Copy, Tag, Declare, Arrays, Empty, Then, GlobalArray, Program}
+use Rattle.tu_core.specs.declared.names.Variable.TheVariants.{Global}
+use Rattle.tu_core.specs.declared.names.GlobalName.TheVariants.{GlobalOf, GlobalArray}
+use Rattle.tu_core.specs.declared.targets.Index.TheVariants.{Open}
+use Rattle.tu_core.specs.declared.targets.Target.TheVariants.{TakesScalar, TakesSet}
+use Rattle.tu_core.specs.Core.{Path, Scalar, Selectors, Bound, Member, Set, SetOf, UseSet, Combined, NoSet, AndSet, NoScalar, AndScalar, End, Field, VariantField, Item, NoSubscript, Subscript, Absent, WithValue, WithParts, AndStart, NoStart, AScalar, ASet, NoneShown, ShowTruth, Simply, Assign, Copy, Tag, Declare, Arrays, Empty, Then, Program}
 use Rattle.tu_meaning.specs.Steps.{◌>>=◌, give, raise, stop, lost, look, change, consult, pay, happen, note, turn, take_room, scope, handled}
 use Rattle.tu_meaning.specs.Meaning.{Ends, Stops}
 use Rattle.tu_meaning.proofs.rows.Making.{within, comes, line, on, span, int_shape, int, number, calculated, global, global_at, item_at, show, text, show_text, put, set, var, var_from, from, program, simple, only}
@@ -70,7 +74,7 @@ row_not_declared = refl
 -- put m (2, 1)
 -- put m (1, 4)
 abbrev matrix : Program
-matrix = program (int_shape ∷ (Array (span 1 2 ∷ (span 1 3 ∷ [])) 0 ∷ [])) (0 ∷ []) []
+matrix = program (int_shape ∷ (Array (span 1 2 ∷ (span 1 3 ∷ [])) 0 ∷ [])) (1 ∷ []) []
     (var 1 1 (Global 0 ∷ []) (Then (set 2 (global_at 0 (at 2 1)) (int 8)) (Then (put 3 (show (number (global_at 0 (at 2 1))) NoneShown)) (only (put 4 (show (number (global_at 0 (at 1 4))) NoneShown))))))
   where
     at : (i j : ℕ) → Selectors
@@ -85,7 +89,7 @@ row_matrix = refl
 -- var m : array 1 .. 2, 1 .. 3 of int
 -- put m (0, 7 div 0)
 -- the subscripts of one bracket are all evaluated before they are tested
-row_one_bracket : within 9 (program (int_shape ∷ (Array (span 1 2 ∷ (span 1 3 ∷ [])) 0 ∷ [])) (0 ∷ []) []
+row_one_bracket : within 9 (program (int_shape ∷ (Array (span 1 2 ∷ (span 1 3 ∷ [])) 0 ∷ [])) (1 ∷ []) []
     (var 1 1 (Global 0 ∷ []) (only (put 2 (show (number (global_at 0 (Item 1 (Subscript (Some (pos 0)) (int 0) (Subscript None (calculated Divide (int 7) (int 0)) NoSubscript)) End))) NoneShown))))) [] ≡ comes [] (Stops kind.Divide 2) 14
 unfolding ◌>>=◌ give raise stop lost look change consult pay happen note turn take_room scope handled digits
 row_one_bracket = refl
@@ -93,7 +97,7 @@ row_one_bracket = refl
 -- var m : array 1 .. 2 of array 1 .. 3 of int
 -- put m (0) (7 div 0)
 -- a selector is tested before the next one is evaluated
-row_two_brackets : within 9 (program (int_shape ∷ (Array (span 1 3 ∷ []) 0 ∷ (Array (span 1 2 ∷ []) 1 ∷ []))) (0 ∷ []) []
+row_two_brackets : within 9 (program (int_shape ∷ (Array (span 1 3 ∷ []) 0 ∷ (Array (span 1 2 ∷ []) 1 ∷ []))) (2 ∷ []) []
     (var 1 2 (Global 0 ∷ []) (only (put 2 (show (number (global_at 0 (Item 2 (Subscript (Some (pos 0)) (int 0) NoSubscript) (item_at 1 (calculated Divide (int 7) (int 0)))))) NoneShown))))) [] ≡ comes [] (Stops kind.Subscript 2) 11
 unfolding ◌>>=◌ give raise stop lost look change consult pay happen note turn take_room scope handled digits
 row_two_brackets = refl

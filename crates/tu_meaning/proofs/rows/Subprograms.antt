@@ -7,7 +7,11 @@ use Rattle.tu_base.specs.declared.shape.Shape.{Shape}
 use Rattle.tu_base.specs.declared.shape.Shape.TheVariants.{Array}
 use Rattle.tu_base.specs.declared.operator.Relation.TheVariants.{Equal, Greater, GreaterOrEqual, LessOrEqual}
 use Rattle.tu_base.specs.declared.operator.Binary.TheVariants.{Divide}
-use Rattle.tu_core.specs.Core.{Global, Local, WithParts, AndStart, NoStart, NoActual, NoneShown, Requires, Ensures, Keeps, Simply, Do, Calls, Module, Empty, Then, Declared, Nothing, Routine, Program}
+use Rattle.tu_core.specs.declared.names.Variable.TheVariants.{Global, Local}
+use Rattle.tu_core.specs.declared.names.LocalName.TheVariants.{Declared}
+use Rattle.tu_core.specs.declared.names.CallResult.TheVariants.{Nothing}
+use Rattle.tu_core.specs.declared.claim.Claim.TheVariants.{Requires, Ensures, Keeps}
+use Rattle.tu_core.specs.Core.{WithParts, AndStart, NoStart, NoActual, NoneShown, Simply, Do, Calls, Module, Empty, Then, Routine, Program}
 use Rattle.tu_core.specs.Rooms.{room_of, main_room}
 use Rattle.tu_meaning.specs.Steps.{◌>>=◌, give, raise, stop, lost, look, change, consult, pay, happen, note, turn, take_room, scope, handled}
 use Rattle.tu_meaning.specs.Meaning.{Ends, Stops, GoesOn}
@@ -19,7 +23,7 @@ use Rattle.tu_meaning.proofs.rows.Making.{within, comes, line, on, span, int_sha
 --   y := t
 -- end swap
 abbrev swap : Routine
-swap = procedure (by_var ∷ (by_var ∷ [])) (Declared 0 ∷ []) (constant 2 (Local 2) (from (number (local 0))) (Then (set 3 (local 0) (number (local 1))) (only (set 4 (local 1) (number (local 2)))))) 5
+swap = procedure (by_var 0 ∷ (by_var 0 ∷ [])) (Declared 0 ∷ []) (constant 2 (Local 2) (from (number (local 0))) (Then (set 3 (local 0) (number (local 1))) (only (set 4 (local 1) (number (local 2)))))) 5
 
 -- var a : array 1 .. 2 of int := init (5, 6)
 -- swap (a (1), a (2))
@@ -47,7 +51,7 @@ row_swapped = refl
 -- var i : int := 1
 -- p (a (i), a (i), 7 div 0)
 abbrev last_first : Program
-last_first = program (int_shape ∷ (Array (span 1 2 ∷ []) 0 ∷ [])) (1 ∷ (0 ∷ [])) (procedure (by_var ∷ (by_var ∷ (by_value ∷ []))) [] Empty 2 ∷ [])
+last_first = program (int_shape ∷ (Array (span 1 2 ∷ []) 0 ∷ [])) (1 ∷ (0 ∷ [])) (procedure (by_var 0 ∷ (by_var 0 ∷ (by_value ∷ []))) [] Empty 2 ∷ [])
     (var 3 1 (Global 0 ∷ []) (var_from 4 0 (Global 1 ∷ []) (from (int 1))
     (only (call 5 0 (lent (global_at 0 (item_at 1 (number (global 1)))) (lent (global_at 0 (item_at 1 (number (global 1)))) (given (calculated Divide (int 7) (int 0)) NoActual)))))))
 
@@ -176,7 +180,7 @@ row_no_result = refl
 -- The checks refuse it, since g is lent and read; the definitions still say when copies come back. It would fail if `post` were checked behind
 -- the copying back.
 abbrev post_first : Program
-post_first = simple (0 ∷ []) (routine Nothing (by_var ∷ []) [] Empty (only (set 4 (local 0) (int 5))) (only (check 3 Ensures (compare Equal (number (global 0)) (int 1)))) 5 ∷ [])
+post_first = simple (0 ∷ []) (routine Nothing (by_var 0 ∷ []) [] Empty (only (set 4 (local 0) (int 5))) (only (check 3 Ensures (compare Equal (number (global 0)) (int 1)))) 5 ∷ [])
     (var_from 1 0 (Global 0 ∷ []) (from (int 1)) (Then (call 6 0 (lent (global 0) NoActual)) (only (put 7 (show (number (global 0)) NoneShown)))))
 
 -- Line 1: 3. Line 6: 2 nodes, a turn, a formal, the assignment 3, `post` 4. Line 7: 36.

@@ -3,7 +3,10 @@ use Rattle.std.proofs.Common.{◌≡◌, [], ◌∷◌, ◌++◌, codes, refl}
 use Rattle.std.specs.Fmt.{digits}
 use Rattle.tu_base.specs.declared.kind.Kind.TheVariants as kind
 use Rattle.tu_base.specs.declared.shape.Shape.TheVariants.{Text as text_shape}
-use Rattle.tu_core.specs.Core.{Scalar, Global, Most, TakesText, Length, PlaceIn, TextInt, Text, Joined, NoText, AndText, Cut, NoCut, CutCharacter, CutPart, Exactly, Last, BeforeLast, Repeat, IntText, Present, AText, NoneShown, Simply, Assign, Then, Program}
+use Rattle.tu_core.specs.declared.names.Variable.TheVariants.{Global}
+use Rattle.tu_core.specs.declared.targets.Size.TheVariants.{Most}
+use Rattle.tu_core.specs.declared.targets.Target.TheVariants.{TakesText}
+use Rattle.tu_core.specs.Core.{Scalar, Length, PlaceIn, TextInt, Text, Joined, NoText, AndText, Cut, NoCut, CutCharacter, CutPart, Exactly, Last, BeforeLast, Repeat, IntText, Present, AText, NoneShown, Simply, Assign, Then, Program}
 use Rattle.tu_meaning.specs.Steps.{◌>>=◌, give, raise, stop, lost, look, change, consult, pay, happen, note, turn, take_room, scope, handled}
 use Rattle.tu_meaning.specs.Meaning.{Ends, Stops}
 use Rattle.tu_meaning.proofs.rows.Making.{within, comes, line, on, int, plus, global, show, text, show_text, put, var, program, simple, only}

@@ -1,0 +1,5 @@
+pub mod Stored
+pub mod ExpressionCodes
+pub mod ExpressionHeights
+pub mod ExpressionViews
+pub mod ExpressionFalls

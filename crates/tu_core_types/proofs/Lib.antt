@@ -1,0 +1,2 @@
+-- of this crate alone
+mod Rows

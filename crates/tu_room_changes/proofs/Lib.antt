@@ -1,0 +1,5 @@
+pub mod Appending
+pub mod Grown
+pub mod Rows
+pub mod StatementRows
+pub mod Counted

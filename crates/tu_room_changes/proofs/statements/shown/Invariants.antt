@@ -1,0 +1,6 @@
+use Rattle.tu_room_changes.proofs.Grown.{Grown}
+use Rattle.tu_room_changes.proofs.StatementRows.{all_shown}
+use Rattle.tu_room_changes.proofs.statements.shown.Given as goal
+
+abbrev pub invariant-loop-x : goal.invariant-loop-x
+invariant-loop-x l = Grown all_shown l.xs l.x-index l.initial.found l.found

@@ -1,0 +1,12 @@
+use Rattle.tu_room_changes.proofs.Grown.{begun, next, all}
+use Rattle.tu_room_changes.proofs.StatementRows.{rows_of_taken}
+use Rattle.tu_room_changes.proofs.statements.taken.Goals as goal
+
+pub loop-x-init : goal.loop-x-init
+loop-x-init c = begun
+
+pub loop-x-preserved : goal.loop-x-preserved
+loop-x-preserved c = next rows_of_taken c.args.xs.now c.loop-x.x-index c.args.found.now c.loop-x.found c.one_taken.new.found c.x-item.result c.loop-x.invariant c.loop-x-test.true c.x-item.is c.in_ok-one_taken.ensures
+
+pub returns : goal.returns
+returns c = all rows_of_taken c.args.xs.now c.loop-x.x-index c.args.found.now c.loop-x.found c.loop-x.invariant c.loop-x-test.false

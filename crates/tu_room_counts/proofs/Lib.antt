@@ -1,0 +1,4 @@
+pub mod StatementLow
+pub mod StatementRows
+pub mod StatementFusion
+pub mod Measured
