@@ -1,0 +1,6 @@
+use Rattle.std.specs.Prelude.{◌≡◌, ◌++◌, drop}
+use Rattle.tu_acts.proofs.StatementRows.{all_shown}
+use Rattle.tu_acts.proofs.plain.shown.Given as goal
+
+abbrev pub invariant-loop-place : goal.invariant-loop-place
+invariant-loop-place l = l.acts ≡ all_shown (drop l.place l.xs) ++ l.initial.acts

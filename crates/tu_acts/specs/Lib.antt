@@ -1,0 +1,4 @@
+pub mod ActCodes
+pub mod ActViews
+pub mod Rows
+pub mod Texts

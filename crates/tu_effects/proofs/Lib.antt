@@ -1,0 +1,9 @@
+pub mod FirstPlace
+pub mod Tails
+pub mod Adding
+pub mod Asking
+pub mod Leading
+pub mod Found
+pub mod Telling
+pub mod Deeds
+pub mod OrderRows

@@ -1,0 +1,5 @@
+pub mod Verdicts
+pub mod Pairs
+pub mod Faults
+pub mod Answers
+pub mod Laws
