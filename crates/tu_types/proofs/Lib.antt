@@ -1,0 +1,7 @@
+pub mod Reading
+mod ExpressionRows
+mod TypeRows
+mod PlaceRows
+mod StatementRows
+mod ProgramRows
+mod CoreRows
