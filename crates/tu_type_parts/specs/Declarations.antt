@@ -11,12 +11,21 @@ use Rattle.tu_token.specs.Syntax.{Of}
 use Rattle.tu_expr.specs.Parts.{Part, mark_of}
 use Rattle.tu_tree.specs.DeclarationViews.{started}
 use Rattle.tu_tree.specs.Forms.{Present, Absent, Behind, ConstDeclaration, CollectionDeclaration, TypedDeclaration, StartedDeclaration, TypeDeclaration}
-use Rattle.tu_type_rules.specs.declared.fault.FaultKind.TheVariants.{Misplaced, Mismatch, TooLarge}
-use Rattle.tu_type_rules.specs.Checked.{Checked, Good, fault, ◌⊳◌, asks}
-use Rattle.tu_type_rules.specs.Constants.{Constant, NoConstant, Is, IsText}
-use Rattle.tu_type_rules.specs.Types.{TypeForm, PointerTo, String, bare_of, span_of, passes, most_parts, numbered_opaque, int, string}
-use Rattle.tu_type_rules.specs.Operands.{Kind, Whole, AnyText, AnyArray, at_mark, index_of}
-use Rattle.tu_type_rules.specs.Names.{Holds, TypeName, CollectionName, Owner, OfMain, State, form_of, with_entity, with_local, next_local, with_global, global_name, local_name, kind_words}
+use Rattle.tu_type_base.specs.declared.fault.FaultKind.TheVariants.{Misplaced, Mismatch, TooLarge}
+use Rattle.tu_type_base.specs.Checked.{Checked, Good, fault, ◌⊳◌, asks}
+use Rattle.tu_type_constants.specs.declared.constant.Constant.{Constant}
+use Rattle.tu_type_constants.specs.declared.constant.Constant.TheVariants.{NoConstant, Is, IsText}
+use Rattle.tu_type_table.specs.declared.types.TypeForm.{TypeForm}
+use Rattle.tu_type_table.specs.declared.types.TypeForm.TheVariants.{PointerTo, String}
+use Rattle.tu_type_table.specs.Types.{bare_of, span_of, passes, most_parts, numbered_opaque, int, string}
+use Rattle.tu_type_operands.specs.declared.kind.Kind.{Kind}
+use Rattle.tu_type_operands.specs.declared.kind.Kind.TheVariants.{Whole, AnyText, AnyArray}
+use Rattle.tu_type_operands.specs.Operands.{at_mark, index_of}
+use Rattle.tu_type_operands.specs.declared.names.Entity.TheVariants.{Holds, TypeName, CollectionName}
+use Rattle.tu_type_operands.specs.declared.state.Owner.{Owner}
+use Rattle.tu_type_operands.specs.declared.state.Owner.TheVariants.{OfMain}
+use Rattle.tu_type_operands.specs.declared.state.State.{State}
+use Rattle.tu_type_operands.specs.Names.{form_of, with_entity, with_local, next_local, with_global, global_name, local_name, kind_words}
 use Rattle.tu_type_parts.specs.Expressions.{expr}
 use Rattle.tu_type_parts.specs.Ranges.{with_type}
 use Rattle.tu_type_parts.specs.Specs.{ForVariable, Named, name_at, names_of, Written, spec, whole_spec}

@@ -16,12 +16,14 @@ use Rattle.tu_expr.specs.Parts.{Part, further, mark_of, text_of, start_of}
 use Rattle.tu_expr.specs.Views.{implied, ored, anded, related, signs, signed, multiplied, raised, bracketed as brackets, steps}
 use Rattle.tu_expr.specs.Forms.{Present, Absent, NoMore, More, Behind, Listed, Expr, Or, And, Not, Compare, Sum, Term, Prefix, Power, Related, Equal, NotEqual, Less, Greater, LessOrEqual, GreaterOrEqual, In, NotIn, Added, Subtracted, Multiplied, Divided, Reduced, Plus, Minus, NumberValue, TrueValue, FalseValue, PathValue, Brackets, TextValue, NilValue, Bracketed, Path, FieldStep, ArgumentStep, OneArg, PartArg, AllArg, ValuePlace, LengthPlace, LengthLessPlace}
 use Rattle.tu_core.specs.Core.{Literal, Written, Nil}
-use Rattle.tu_type_rules.specs.declared.fault.FaultKind.TheVariants.{Mismatch}
-use Rattle.tu_type_rules.specs.Checked.{Checked, Good, fault, both, ◌⊳◌}
-use Rattle.tu_type_rules.specs.Constants.{NoConstant, Is, IsText}
-use Rattle.tu_type_rules.specs.Types.{int, boolean}
-use Rattle.tu_type_rules.specs.Operands.{Points, Operand, at_mark, a_value, a_number, a_text, number_of, text_of_part}
-use Rattle.tu_type_rules.specs.Names.{State, pointer_type}
+use Rattle.tu_type_base.specs.declared.fault.FaultKind.TheVariants.{Mismatch}
+use Rattle.tu_type_base.specs.Checked.{Checked, Good, fault, both, ◌⊳◌}
+use Rattle.tu_type_constants.specs.declared.constant.Constant.TheVariants.{NoConstant, Is, IsText}
+use Rattle.tu_type_table.specs.Types.{int, boolean}
+use Rattle.tu_type_operands.specs.declared.value.Value.TheVariants.{Points}
+use Rattle.tu_type_operands.specs.Operands.{Operand, at_mark, a_value, a_number, a_text, number_of, text_of_part, value_of}
+use Rattle.tu_type_operands.specs.declared.state.State.{State}
+use Rattle.tu_type_operands.specs.Names.{pointer_type}
 use Rattle.tu_type_rules.specs.Operators.{Operator, Computes, Relates, Finds, Decides, a_truth, Further, level, prefixed}
 use Rattle.tu_type_rules.specs.Arguments.{Position, ValueAt, Length, LessLength, Argument, One, Two, All}
 use Rattle.tu_type_rules.specs.Paths.{Standing, StandsForCollection, root, completed, dotted, bracketed, part_of_string, operand_of}
@@ -61,7 +63,7 @@ nil_of s node m other = fault Mismatch m
 
 -- a part of a text literal, or of such a part
 abbrev pub part_of_literal : Mark → Operand × Argument → Checked Operand
-part_of_literal m z = text_of_part m z.0.value ⊳ λ e. part_of_string m e (z.1 ∷ [])
+part_of_literal m z = text_of_part m (value_of z.0) ⊳ λ e. part_of_string m e (z.1 ∷ [])
 
 module _ (s : State) where
   abbrev mutual
@@ -161,4 +163,4 @@ module _ (s : State) where
     pub position : Of r-place → Checked Position
     position (ValuePlace m y) = expr y ⊳ λ a. Good (ValueAt a)
     position (LengthPlace m _) = Good Length
-    position (LengthLessPlace m _ _ y) = term y ⊳ λ a. number_of int (mark_of y) a.value ⊳ λ e. Good (LessLength e)
+    position (LengthLessPlace m _ _ y) = term y ⊳ λ a. number_of int (mark_of y) (value_of a) ⊳ λ e. Good (LessLength e)

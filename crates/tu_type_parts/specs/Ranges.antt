@@ -7,12 +7,20 @@ use Rattle.tu_token.specs.Rules.{r-range, r-name}
 use Rattle.tu_token.specs.Syntax.{Of}
 use Rattle.tu_expr.specs.Parts.{mark_of, start_of}
 use Rattle.tu_tree.specs.Forms.{Present, Absent, Behind, NameOf, BoundedRange, NamedRange}
-use Rattle.tu_type_rules.specs.declared.fault.FaultKind.TheVariants.{Mismatch, NotConstant, OutOfRange}
-use Rattle.tu_type_rules.specs.Checked.{Checked, Good, fault, both, ◌⊳◌, asks}
-use Rattle.tu_type_rules.specs.Constants.{Constant, number_in}
-use Rattle.tu_type_rules.specs.Types.{TypeForm, Subrange, Enumeration, numbered, int, boolean}
-use Rattle.tu_type_rules.specs.Operands.{Value, Number, Operand, number_of}
-use Rattle.tu_type_rules.specs.Names.{Entity, TypeName, State, entity_at, form_of}
+use Rattle.tu_type_base.specs.declared.fault.FaultKind.TheVariants.{Mismatch, NotConstant, OutOfRange}
+use Rattle.tu_type_base.specs.Checked.{Checked, Good, fault, both, ◌⊳◌, asks}
+use Rattle.tu_type_constants.specs.declared.constant.Constant.{Constant}
+use Rattle.tu_type_constants.specs.Constants.{number_in}
+use Rattle.tu_type_table.specs.declared.types.TypeForm.{TypeForm}
+use Rattle.tu_type_table.specs.declared.types.TypeForm.TheVariants.{Subrange, Enumeration}
+use Rattle.tu_type_table.specs.Types.{numbered, int, boolean}
+use Rattle.tu_type_operands.specs.declared.value.Value.{Value}
+use Rattle.tu_type_operands.specs.declared.value.Value.TheVariants.{Number}
+use Rattle.tu_type_operands.specs.Operands.{Operand, number_of, value_of}
+use Rattle.tu_type_operands.specs.declared.names.Entity.{Entity}
+use Rattle.tu_type_operands.specs.declared.names.Entity.TheVariants.{TypeName}
+use Rattle.tu_type_operands.specs.declared.state.State.{State}
+use Rattle.tu_type_operands.specs.Names.{entity_at, form_of}
 use Rattle.tu_type_parts.specs.Expressions.{expr}
 
 -- the value of a constant expression at m
@@ -26,12 +34,12 @@ range_root m other = fault Mismatch m
 
 -- a lower bound: its root and its value
 abbrev pub lower_bound : Mark → Operand → Checked (ℕ × ℤ)
-lower_bound m a = range_root m a.value ⊳ λ root. value_at m a.constant ⊳ λ low. Good (root, low)
+lower_bound m a = range_root m (value_of a) ⊳ λ root. value_at m a.constant ⊳ λ low. Good (root, low)
 
 -- an upper bound behind a lower one
 abbrev pub upper_bound : Mark → Operand → ℕ × ℤ → Checked TypeForm
 upper_bound n b lower =
-    number_of lower.0 n b.value ⊳ λ _. value_at n b.constant ⊳ λ high. asks (int_le lower.1 high) OutOfRange n ⊳ λ _. Good (Subrange lower.0 lower.1 high)
+    number_of lower.0 n (value_of b) ⊳ λ _. value_at n b.constant ⊳ λ high. asks (int_le lower.1 high) OutOfRange n ⊳ λ _. Good (Subrange lower.0 lower.1 high)
 
 -- the type from one bound to another
 abbrev pub bounds : (m n : Mark) → Operand × Operand → Checked TypeForm
@@ -39,12 +47,12 @@ bounds m n z = lower_bound m z.0 ⊳ upper_bound n z.1
 
 -- a string's size, from 1 to 255
 abbrev pub size : Mark → Operand → Checked ℕ
-size m a = number_of int m a.value ⊳ λ _. value_at m a.constant ⊳ λ z. asks (int_le (pos 1) z && int_le z (pos MOST_TEXT_BYTES)) OutOfRange m ⊳ λ _. Good (unsigned_abs z)
+size m a = number_of int m (value_of a) ⊳ λ _. value_at m a.constant ⊳ λ z. asks (int_le (pos 1) z && int_le z (pos MOST_TEXT_BYTES)) OutOfRange m ⊳ λ _. Good (unsigned_abs z)
 
 -- a label of a type with this root and these values
 abbrev pub label : (root : ℕ) → Span → Mark × Operand → Checked ℤ
 label root span x =
-    number_of root x.0 x.1.value ⊳ λ _. value_at x.0 x.1.constant ⊳ λ z. asks (int_le span.low z && int_le z span.high) OutOfRange x.0 ⊳ λ _. Good z
+    number_of root x.0 (value_of x.1) ⊳ λ _. value_at x.0 x.1.constant ⊳ λ z. asks (int_le span.low z && int_le z span.high) OutOfRange x.0 ⊳ λ _. Good z
 
 abbrev pub labels : (root : ℕ) → Span → List (Mark × Operand) → Checked (List ℤ)
 labels root span [] = Good []

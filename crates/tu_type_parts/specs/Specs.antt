@@ -10,12 +10,22 @@ use Rattle.tu_token.specs.Syntax.{Of}
 use Rattle.tu_expr.specs.Parts.{Part, further, mark_of, text_of, start_of, line_of}
 use Rattle.tu_tree.specs.TypeViews.{named, arrays, sizes}
 use Rattle.tu_tree.specs.Forms.{Present, Absent, More, NoMore, Behind, Listed, Names, Spec, ArrayOf as ArrayList, BoundedIndex, OpenIndex, NamedIndex, BoundedRange, NamedRange, IntType, BooleanType, StringType, MostSize, OpenSize, RangeType, EnumType, SetType, PointerType, RecordType, UnionType, NameOf, Field as FieldNode, Variant as VariantNode}
-use Rattle.tu_type_rules.specs.declared.fault.FaultKind.TheVariants.{Misplaced, Mismatch, OutOfRange}
-use Rattle.tu_type_rules.specs.Checked.{Checked, Good, fault, both, ◌⊳◌, asks}
-use Rattle.tu_type_rules.specs.Constants.{number_in}
-use Rattle.tu_type_rules.specs.Types.{Name as TypeName, Field, Variant, Enumeration, String, SetOf, PointerTo, ArrayOf, Record, Union, root_of, span_of, int, boolean, string}
-use Rattle.tu_type_rules.specs.Operands.{Bounds, Within, From, Kind, Whole, AnyText, AnyArray, Operand, at_mark, number_of}
-use Rattle.tu_type_rules.specs.Names.{Entity, CollectionName, State, entity_at, here}
+use Rattle.tu_type_base.specs.declared.fault.FaultKind.TheVariants.{Misplaced, Mismatch, OutOfRange}
+use Rattle.tu_type_base.specs.Checked.{Checked, Good, fault, both, ◌⊳◌, asks}
+use Rattle.tu_type_constants.specs.Constants.{number_in}
+use Rattle.tu_type_table.specs.declared.types.Field.{Field}
+use Rattle.tu_type_table.specs.declared.types.Variant.{Variant}
+use Rattle.tu_type_table.specs.declared.types.TypeForm.TheVariants.{Enumeration, String, SetOf, PointerTo, ArrayOf, Record, Union}
+use Rattle.tu_type_table.specs.Types.{Name as TypeName, root_of, span_of, int, boolean, string}
+use Rattle.tu_type_operands.specs.declared.kind.Bounds.{Bounds}
+use Rattle.tu_type_operands.specs.declared.kind.Bounds.TheVariants.{Within, From}
+use Rattle.tu_type_operands.specs.declared.kind.Kind.{Kind}
+use Rattle.tu_type_operands.specs.declared.kind.Kind.TheVariants.{Whole, AnyText, AnyArray}
+use Rattle.tu_type_operands.specs.Operands.{Operand, at_mark, number_of, value_of}
+use Rattle.tu_type_operands.specs.declared.names.Entity.{Entity}
+use Rattle.tu_type_operands.specs.declared.names.Entity.TheVariants.{CollectionName}
+use Rattle.tu_type_operands.specs.declared.state.State.{State}
+use Rattle.tu_type_operands.specs.Names.{entity_at, here}
 use Rattle.tu_type_parts.specs.Expressions.{expr}
 use Rattle.tu_type_parts.specs.Ranges.{lower_bound, upper_bound, bounds, size, labels, with_type, named_type, index_type, range}
 
@@ -46,7 +56,7 @@ names_of (Names m first more) = name_at first ∷ more_names more
 
 abbrev pub fields_named : (type : ℕ) → List Named → List Field
 fields_named n [] = []
-fields_named n (x ∷ more) = record { name = x.text; type = n } ∷ fields_named n more
+fields_named n (x ∷ more) = record { name = x.text; type_number = n } ∷ fields_named n more
 
 -- An index, with its upper bound where that is evaluated.
 pub record Indexed : Type 0 where
@@ -102,7 +112,7 @@ with_first indexes z = elim (all_within indexes) [
 -- an upper bound of a variable's own array: one that is no constant expression, or would raise, is evaluated
 abbrev pub run_time_bound : State → Mark → Operand → ℕ × ℤ → Checked (State × Indexed)
 run_time_bound s n b lower = elim (number_in b.constant) [
-  | None ↦ number_of lower.0 n b.value ⊳ λ e. Good (s, record { bounds = From lower.0 lower.1; upper = e ∷ [] })
+  | None ↦ number_of lower.0 n (value_of b) ⊳ λ e. Good (s, record { bounds = From lower.0 lower.1; upper = e ∷ [] })
   | Some z ↦ upper_bound n b lower ⊳ λ form. let z = with_type s form in Good (z.0, known_index z.1)
 ]
 

@@ -8,11 +8,15 @@ use Rattle.tu_token.specs.Rules.{r-start, many, listed}
 use Rattle.tu_token.specs.Syntax.{Of}
 use Rattle.tu_expr.specs.Parts.{Part, further}
 use Rattle.tu_tree.specs.Forms.{More, NoMore, Behind, Listed, ValueStart, InitStart}
-use Rattle.tu_type_rules.specs.declared.fault.FaultKind.TheVariants.{Mismatch, BadCount}
-use Rattle.tu_type_rules.specs.Checked.{Checked, Good, fault, both, ◌⊳◌, asks}
-use Rattle.tu_type_rules.specs.Types.{TypeForm, ArrayOf, Record, bare_of, span_of}
-use Rattle.tu_type_rules.specs.Operands.{Place, Operand, simple_of, target_of, fits}
-use Rattle.tu_type_rules.specs.Names.{State, form_of, here}
+use Rattle.tu_type_base.specs.declared.fault.FaultKind.TheVariants.{Mismatch, BadCount}
+use Rattle.tu_type_base.specs.Checked.{Checked, Good, fault, both, ◌⊳◌, asks}
+use Rattle.tu_type_table.specs.declared.types.TypeForm.{TypeForm}
+use Rattle.tu_type_table.specs.declared.types.TypeForm.TheVariants.{ArrayOf, Record}
+use Rattle.tu_type_table.specs.Types.{bare_of, span_of}
+use Rattle.tu_type_operands.specs.declared.operand.Place.{Place}
+use Rattle.tu_type_operands.specs.Operands.{Operand, simple_of, target_of, fits, value_of, place_of}
+use Rattle.tu_type_operands.specs.declared.state.State.{State}
+use Rattle.tu_type_operands.specs.Names.{form_of, here}
 use Rattle.tu_type_parts.specs.Expressions.{expr}
 
 -- a value for its target, or a copy of a place with parts
@@ -55,7 +59,7 @@ module _ (s : State) where
 
   -- what stands at m is stored at a name or place of a type, which it fits
   abbrev pub stored : (type : ℕ) → Mark → Operand → Checked Stored
-  stored n m a = asks (fits s.types (here s n) a) Mismatch m ⊳ λ _. stored_by m (bare_of s.types (here s n)) (target_of s.types (here s n)) (simple_of a.value) a.place
+  stored n m a = asks (fits s.types (here s n) a) Mismatch m ⊳ λ _. stored_by m (bare_of s.types (here s n)) (target_of s.types (here s n)) (simple_of (value_of a)) (place_of a)
 
   abbrev pub fitted : (type : ℕ) → Begun → Checked Start
   fitted n (Plain m a) = stored n m a ⊳ λ x. Good (start_with x)
@@ -73,12 +77,12 @@ module _ (s : State) where
   -- `init (..)` begins an array, element by element in row order, or a record, field by field
   abbrev pub init_of_form : Mark → (type : ℕ) → List Begun → TypeForm → Checked Begun
   init_of_form m n xs (ArrayOf indexes component) = asks (length xs == elements (map (span_of s.types) indexes)) BadCount m ⊳ λ _. fitted_each component xs ⊳ λ z. Good (Built (WithParts (bare_of s.types (here s n)) z))
-  init_of_form m n xs (Record written fields) = fitted_in_turn m (map (λ f. f.type) fields) xs ⊳ λ z. Good (Built (WithParts (bare_of s.types (here s n)) z))
+  init_of_form m n xs (Record written fields) = fitted_in_turn m (map (λ f. f.type_number) fields) xs ⊳ λ z. Good (Built (WithParts (bare_of s.types (here s n)) z))
   init_of_form m n xs form = fault Mismatch m
 
   abbrev pub expected_of : TypeForm → Expected
   expected_of (ArrayOf indexes component) = Each component
-  expected_of (Record written fields) = InTurn (map (λ f. f.type) fields)
+  expected_of (Record written fields) = InTurn (map (λ f. f.type_number) fields)
   expected_of form = AnyType
 
   abbrev pub expected_by : Option ℕ → Expected

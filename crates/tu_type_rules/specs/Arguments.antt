@@ -6,12 +6,21 @@ use Rattle.tu_base.specs.Scalars.{are_equal}
 use Rattle.tu_core.specs.declared.names.At.{At}
 use Rattle.tu_core.specs.declared.targets.Target.{Target}
 use Rattle.tu_core.specs.Core.{Scalar, Spot, Exactly, Last, BeforeLast, Subscripts, NoSubscript, Subscript, Actuals, NoActual, Given, Lent, Path, Simple}
-use Rattle.tu_type_rules.specs.declared.fault.FaultKind.TheVariants.{Mismatch, NotVariable, BadCount}
-use Rattle.tu_type_rules.specs.Checked.{Checked, Good, fault, both, ◌⊳◌, asks}
-use Rattle.tu_type_rules.specs.Constants.{number_in}
-use Rattle.tu_type_rules.specs.Types.{TypeForm, Row, String as string_type, ArrayOf, row_at, root_of, span_of, int, string}
-use Rattle.tu_type_rules.specs.Operands.{Bounds, Within, From, Kind, Whole, AnyText, AnyArray, Value, Place, Operand, at_mark, simple_of, target_at, fits, number_of, scalar_in}
-use Rattle.tu_type_rules.specs.Names.{Parameter}
+use Rattle.tu_type_base.specs.declared.fault.FaultKind.TheVariants.{Mismatch, NotVariable, BadCount}
+use Rattle.tu_type_base.specs.Checked.{Checked, Good, fault, both, ◌⊳◌, asks}
+use Rattle.tu_type_constants.specs.Constants.{number_in}
+use Rattle.tu_type_table.specs.declared.types.TypeForm.{TypeForm}
+use Rattle.tu_type_table.specs.declared.types.Row.{Row}
+use Rattle.tu_type_table.specs.declared.types.TypeForm.TheVariants.{String as string_type, ArrayOf}
+use Rattle.tu_type_table.specs.Types.{row_at, root_of, span_of, int, string}
+use Rattle.tu_type_operands.specs.declared.kind.Bounds.{Bounds}
+use Rattle.tu_type_operands.specs.declared.kind.Bounds.TheVariants.{Within, From}
+use Rattle.tu_type_operands.specs.declared.kind.Kind.{Kind}
+use Rattle.tu_type_operands.specs.declared.kind.Kind.TheVariants.{Whole, AnyText, AnyArray}
+use Rattle.tu_type_operands.specs.declared.value.Value.{Value}
+use Rattle.tu_type_operands.specs.declared.operand.Place.{Place}
+use Rattle.tu_type_operands.specs.Operands.{Operand, at_mark, simple_of, target_at, fits, number_of, scalar_in, value_of, place_of}
+use Rattle.tu_type_operands.specs.declared.names.Parameter.{Parameter}
 
 -- an expression, `*`, or `* - e`
 pub data Position : Type 0 where
@@ -41,7 +50,7 @@ values_in (x ∷ more) = both (value_in x) (values_in more) ⊳ λ z. Good (z.0 
 
 -- a place in a string
 abbrev pub spot_at : Mark → Position → Checked Spot
-spot_at m (ValueAt a) = number_of int m a.value ⊳ λ e. Good (Exactly e)
+spot_at m (ValueAt a) = number_of int m (value_of a) ⊳ λ e. Good (Exactly e)
 spot_at m Length = Good Last
 spot_at m (LessLength e) = Good (BeforeLast e)
 
@@ -51,8 +60,8 @@ module _ (types : List Row) where
 
   -- a subscript fits its index type
   abbrev pub subscript : Bounds → Mark × Operand → Checked Scalar
-  subscript (Within index) x = asks (fits types index x.1) Mismatch x.0 ⊳ λ _. scalar_at x.0 x.1.value
-  subscript (From root low) x = number_of root x.0 x.1.value
+  subscript (Within index) x = asks (fits types index x.1) Mismatch x.0 ⊳ λ _. scalar_at x.0 (value_of x.1)
+  subscript (From root low) x = number_of root x.0 (value_of x.1)
 
   -- with its value where it is a constant expression
   abbrev pub valued_subscript : Bounds → Mark × Operand → Checked (Option ℤ × Scalar)
@@ -128,13 +137,13 @@ module _ (types : List Row) where
 
   -- A constant formal without parts receives a value, and one with parts a place; a `var` formal receives a variable.
   abbrev pub receive_constant : Mark → Kind → Option Target → Operand → Checked Received
-  receive_constant m kind None a = receive_place m false (lent_for types kind a.kind) a.place
-  receive_constant m (Whole n) (Some target) a = receive_value m None (fits types n a) (simple_of a.value)
-  receive_constant m kind (Some target) a = receive_value m (Some (size_of types a.kind)) (fits types string a) (simple_of a.value)
+  receive_constant m kind None a = receive_place m false (lent_for types kind a.kind) (place_of a)
+  receive_constant m (Whole n) (Some target) a = receive_value m None (fits types n a) (simple_of (value_of a))
+  receive_constant m kind (Some target) a = receive_value m (Some (size_of types a.kind)) (fits types string a) (simple_of (value_of a))
 
   abbrev pub receive : Parameter → Mark × Operand → Checked Received
   receive p x = elim p.is_var [
-    | true ↦ receive_place x.0 true (lent_for types p.kind x.1.kind) x.1.place
+    | true ↦ receive_place x.0 true (lent_for types p.kind x.1.kind) (place_of x.1)
     | false ↦ receive_constant x.0 p.kind (target_at types p.kind) x.1
   ]
 

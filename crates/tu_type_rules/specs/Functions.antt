@@ -8,11 +8,21 @@ use Rattle.tu_base.specs.declared.operator.Binary.{Binary}
 use Rattle.tu_base.specs.declared.operator.Binary.TheVariants.{Least, Greatest}
 use Rattle.tu_base.specs.Texts.{are_equal_texts}
 use Rattle.tu_core.specs.Core.{Scalar, Text, Path, Prefixed, Chain, Length, PlaceIn, ByteOf, TextInt, Bound, AtEnd, NoLink, Link, Character, IntText, Repeat, Optional, Absent, Present}
-use Rattle.tu_type_rules.specs.declared.fault.FaultKind.TheVariants.{Mismatch, BadCount}
-use Rattle.tu_type_rules.specs.Checked.{Checked, Good, fault, both, ◌⊳◌, asks}
-use Rattle.tu_type_rules.specs.Constants.{NoConstant, number_in}
-use Rattle.tu_type_rules.specs.Types.{TypeForm, Row, Enumeration, ArrayOf, row_at, root_of, int}
-use Rattle.tu_type_rules.specs.Operands.{Bounds, Within, From, Kind, Whole, AnyText, AnyArray, Value, Number, String, Operand, at_mark, index_of, a_number, a_text, number_of, text_of_part}
+use Rattle.tu_type_base.specs.declared.fault.FaultKind.TheVariants.{Mismatch, BadCount}
+use Rattle.tu_type_base.specs.Checked.{Checked, Good, fault, both, ◌⊳◌, asks}
+use Rattle.tu_type_constants.specs.declared.constant.Constant.TheVariants.{NoConstant}
+use Rattle.tu_type_constants.specs.Constants.{number_in}
+use Rattle.tu_type_table.specs.declared.types.TypeForm.{TypeForm}
+use Rattle.tu_type_table.specs.declared.types.Row.{Row}
+use Rattle.tu_type_table.specs.declared.types.TypeForm.TheVariants.{Enumeration, ArrayOf}
+use Rattle.tu_type_table.specs.Types.{row_at, root_of, int}
+use Rattle.tu_type_operands.specs.declared.kind.Bounds.{Bounds}
+use Rattle.tu_type_operands.specs.declared.kind.Bounds.TheVariants.{Within, From}
+use Rattle.tu_type_operands.specs.declared.kind.Kind.{Kind}
+use Rattle.tu_type_operands.specs.declared.kind.Kind.TheVariants.{Whole, AnyText, AnyArray}
+use Rattle.tu_type_operands.specs.declared.value.Value.{Value}
+use Rattle.tu_type_operands.specs.declared.value.Value.TheVariants.{Number, String}
+use Rattle.tu_type_operands.specs.Operands.{Operand, at_mark, index_of, a_number, a_text, number_of, text_of_part, value_of, place_of}
 use Rattle.tu_type_rules.specs.Operators.{a_truth}
 use Rattle.tu_type_rules.specs.Arguments.{Argument, values_in}
 
@@ -56,10 +66,10 @@ counts other = (1, 1)
 
 module _ (types : List Row) (m : Mark) where
   abbrev pub int_of : Mark × Operand → Checked Scalar
-  int_of x = number_of int x.0 x.1.value
+  int_of x = number_of int x.0 (value_of x.1)
 
   abbrev pub text_of : Mark × Operand → Checked Text
-  text_of x = text_of_part x.0 x.1.value
+  text_of x = text_of_part x.0 (value_of x.1)
 
   abbrev pub gives : (root : ℕ) → Checked Scalar → Checked Operand
   gives root x = x ⊳ λ e. Good (a_number root e NoConstant)
@@ -119,7 +129,7 @@ module _ (types : List Row) (m : Mark) where
 
   -- an array, with its indexes
   abbrev pub array_at : Operand → Option (Bounds × List Bounds × Path)
-  array_at a = elim a.place [ None ↦ None | Some place ↦ elim (indexes_of a.kind) [ [] ↦ None | (index ∷ more) ↦ Some (index, more, place.path) ] ]
+  array_at a = elim (place_of a) [ None ↦ None | Some place ↦ elim (indexes_of a.kind) [ [] ↦ None | (index ∷ more) ↦ Some (index, more, place.path) ] ]
 
   abbrev pub bound_of : (is_upper : Bool) → Bounds × List Bounds × Path → Optional → Scalar
   bound_of is_upper a d = Bound m.number is_upper (map (index_of types) (a.0 ∷ a.1)) a.2 d
@@ -143,10 +153,10 @@ module _ (types : List Row) (m : Mark) where
   applied Abs (x ∷ []) = of_one Absolute x
   applied Min (x ∷ y ∷ []) = of_two Least x y
   applied Max (x ∷ y ∷ []) = of_two Greatest x y
-  applied Ord (x ∷ []) = ordinal x.0 x.1.value
+  applied Ord (x ∷ []) = ordinal x.0 (value_of x.1)
   applied Chr (x ∷ []) = int_of x ⊳ λ e. Good (a_text (Character m.number e) NoConstant)
-  applied Succ (x ∷ []) = beside Successor (λ last. Next last) x.0 x.1.value
-  applied Pred (x ∷ []) = beside Predecessor (λ last. Previous last) x.0 x.1.value
+  applied Succ (x ∷ []) = beside Successor (λ last. Next last) x.0 (value_of x.1)
+  applied Pred (x ∷ []) = beside Predecessor (λ last. Previous last) x.0 (value_of x.1)
   applied LengthOf (x ∷ []) = gives int (text_of x ⊳ λ e. Good (Length m.number e))
   applied IndexOf (x ∷ y ∷ []) = gives int (both (text_of x) (text_of y) ⊳ λ z. Good (PlaceIn m.number z.0 z.1))
   applied RepeatOf (x ∷ y ∷ []) = both (text_of x) (int_of y) ⊳ λ z. Good (a_text (Repeat m.number z.0 z.1) NoConstant)

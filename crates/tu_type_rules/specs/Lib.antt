@@ -1,8 +1,3 @@
-pub mod Checked
-pub mod Constants
-pub mod Types
-pub mod Operands
-pub mod Names
 pub mod Operators
 pub mod Arguments
 pub mod Functions

@@ -11,11 +11,17 @@ use Rattle.tu_base.specs.declared.operator.Junction.{Junction}
 use Rattle.tu_base.specs.declared.operator.Combination.{Combination}
 use Rattle.tu_base.specs.declared.operator.Combination.TheVariants.{Union, Intersection, Difference}
 use Rattle.tu_core.specs.Core.{Scalar, Prefixed, Chain, CompareTexts, CompareSets, ComparePointers, Member, Links, NoLink, Link, Decide, Text, Joined, Texts, NoText, AndText, Set, Combined, Combinations, NoSet, AndSet}
-use Rattle.tu_type_rules.specs.declared.fault.FaultKind.TheVariants.{Mismatch}
-use Rattle.tu_type_rules.specs.Checked.{Checked, Good, fault, both, ◌⊳◌, asks}
-use Rattle.tu_type_rules.specs.Constants.{Constant, NoConstant, all_prefixed, of_numbers, of_texts, of_joined, of_truths}
-use Rattle.tu_type_rules.specs.Types.{Row, int, boolean, root_of}
-use Rattle.tu_type_rules.specs.Operands.{Value, Number, String, Members, Points, Operand, base_of, a_number, a_text, number_of, text_of_part, set_of_part, pointer_of_part}
+use Rattle.tu_type_base.specs.declared.fault.FaultKind.TheVariants.{Mismatch}
+use Rattle.tu_type_base.specs.Checked.{Checked, Good, fault, both, ◌⊳◌, asks}
+use Rattle.tu_type_constants.specs.declared.constant.Constant.{Constant}
+use Rattle.tu_type_constants.specs.declared.constant.Constant.TheVariants.{NoConstant}
+use Rattle.tu_type_constants.specs.Constants.{all_prefixed, of_numbers, of_texts, of_joined, of_truths}
+use Rattle.tu_type_table.specs.declared.types.Row.{Row}
+use Rattle.tu_type_table.specs.Types.{int, boolean, root_of, base_of}
+use Rattle.tu_type_operands.specs.declared.operand.Found.TheVariants.{AValue}
+use Rattle.tu_type_operands.specs.declared.value.Value.{Value}
+use Rattle.tu_type_operands.specs.declared.value.Value.TheVariants.{Number, String, Members, Points}
+use Rattle.tu_type_operands.specs.Operands.{Operand, a_number, a_text, number_of, text_of_part, set_of_part, pointer_of_part, value_of}
 
 pub data Operator : Type 0 where
   -- `+ - * div mod **`
@@ -85,11 +91,11 @@ a_truth e constant = a_number boolean e constant
 module _ (types : List Row) (level link : ℕ) (m n : Mark) (a b : Operand) where
   -- int; strings are joined, and sets combined
   abbrev pub computed : Binary → Value → Checked Operand
-  computed operator (Number root x) = asks (root == int) Mismatch m ⊳ λ _. number_of int n b.value ⊳ λ y. Good (a_number int (chained level x (Link operator y NoLink)) (of_numbers operator a.constant b.constant))
-  computed operator (String x) = asks (is_addition operator) Mismatch m ⊳ λ _. text_of_part n b.value ⊳ λ y. Good (a_text (joined level x y) (of_joined a.constant b.constant))
+  computed operator (Number root x) = asks (root == int) Mismatch m ⊳ λ _. number_of int n (value_of b) ⊳ λ y. Good (a_number int (chained level x (Link operator y NoLink)) (of_numbers operator a.constant b.constant))
+  computed operator (String x) = asks (is_addition operator) Mismatch m ⊳ λ _. text_of_part n (value_of b) ⊳ λ y. Good (a_text (joined level x y) (of_joined a.constant b.constant))
   computed operator (Members base x) = elim (combination operator) [
     | None ↦ fault Mismatch m
-    | Some c ↦ set_of_part base n b.value ⊳ λ y. Good (record a { value = Members base (combined level (base_of types base) c x y); place = None; constant = NoConstant })
+    | Some c ↦ set_of_part base n (value_of b) ⊳ λ y. Good (record a { found = AValue (Members base (combined level (base_of types base) c x y)); constant = NoConstant })
   ]
   computed operator other = fault Mismatch m
 
@@ -97,10 +103,10 @@ module _ (types : List Row) (level link : ℕ) (m n : Mark) (a b : Operand) wher
   -- and `>=` alone.
   abbrev pub related : Relation → Value → Checked Operand
   related relation (Number root x) =
-      asks (is_equality relation || not (root == boolean)) Mismatch m ⊳ λ _. number_of root n b.value ⊳ λ y. Good (a_truth (chained level x (Link (Compare relation) y NoLink)) (of_numbers (Compare relation) a.constant b.constant))
-  related relation (String x) = text_of_part n b.value ⊳ λ y. Good (a_truth (CompareTexts link relation x y) (of_texts relation a.constant b.constant))
-  related relation (Members base x) = asks (is_of_sets relation) Mismatch m ⊳ λ _. set_of_part base n b.value ⊳ λ y. Good (a_truth (CompareSets link relation (base_of types base) x y) NoConstant)
-  related relation (Points c x) = asks (is_equality relation) Mismatch m ⊳ λ _. pointer_of_part c n b.value ⊳ λ y. Good (a_truth (ComparePointers link (is_equal_sign relation) x y) NoConstant)
+      asks (is_equality relation || not (root == boolean)) Mismatch m ⊳ λ _. number_of root n (value_of b) ⊳ λ y. Good (a_truth (chained level x (Link (Compare relation) y NoLink)) (of_numbers (Compare relation) a.constant b.constant))
+  related relation (String x) = text_of_part n (value_of b) ⊳ λ y. Good (a_truth (CompareTexts link relation x y) (of_texts relation a.constant b.constant))
+  related relation (Members base x) = asks (is_of_sets relation) Mismatch m ⊳ λ _. set_of_part base n (value_of b) ⊳ λ y. Good (a_truth (CompareSets link relation (base_of types base) x y) NoConstant)
+  related relation (Points c x) = asks (is_equality relation) Mismatch m ⊳ λ _. pointer_of_part c n (value_of b) ⊳ λ y. Good (a_truth (ComparePointers link (is_equal_sign relation) x y) NoConstant)
   related relation other = fault Mismatch m
 
   abbrev pub found_in : (is_wanted : Bool) → (root : ℕ) → Scalar → Value → Checked Operand
@@ -109,16 +115,16 @@ module _ (types : List Row) (level link : ℕ) (m n : Mark) (a b : Operand) wher
 
   -- an element and a set
   abbrev pub found : (is_wanted : Bool) → Value → Checked Operand
-  found is_wanted (Number root x) = asks (not (root == boolean)) Mismatch m ⊳ λ _. found_in is_wanted root x b.value
+  found is_wanted (Number root x) = asks (not (root == boolean)) Mismatch m ⊳ λ _. found_in is_wanted root x (value_of b)
   found is_wanted other = fault Mismatch m
 
   abbrev pub decided : Junction → Checked Operand
-  decided operator = number_of boolean m a.value ⊳ λ x. number_of boolean n b.value ⊳ λ y. Good (a_truth (chained level x (Decide operator y NoLink)) (of_truths operator a.constant b.constant))
+  decided operator = number_of boolean m (value_of a) ⊳ λ x. number_of boolean n (value_of b) ⊳ λ y. Good (a_truth (chained level x (Decide operator y NoLink)) (of_truths operator a.constant b.constant))
 
   abbrev pub operated : Operator → Checked Operand
-  operated (Computes operator) = computed operator a.value
-  operated (Relates relation) = related relation a.value
-  operated (Finds is_wanted) = found is_wanted a.value
+  operated (Computes operator) = computed operator (value_of a)
+  operated (Relates relation) = related relation (value_of a)
+  operated (Finds is_wanted) = found is_wanted (value_of a)
   operated (Decides operator) = decided operator
 
 -- an operator of a level, with its right operand at a mark
@@ -136,4 +142,4 @@ level types m x (y ∷ more) = level types m (both x y.operand ⊳ λ z. operate
 -- an operand of a root, at n, behind prefix operators
 abbrev pub prefixed : (node root : ℕ) → List Unary → (n : Mark) → Operand → Checked Operand
 prefixed node root [] n a = Good a
-prefixed node root (operator ∷ more) n a = number_of root n a.value ⊳ λ x. Good (a_number root (Prefixed node (operator ∷ more) x) (all_prefixed (operator ∷ more) a.constant))
+prefixed node root (operator ∷ more) n a = number_of root n (value_of a) ⊳ λ x. Good (a_number root (Prefixed node (operator ∷ more) x) (all_prefixed (operator ∷ more) a.constant))

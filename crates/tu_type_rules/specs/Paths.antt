@@ -4,12 +4,28 @@ use Rattle.std.specs.Prelude.{ℕ, suc, ◌+◌, Bool, true, false, not, List, [
 use Rattle.grammar.specs.Tree.{Mark}
 use Rattle.tu_base.specs.Texts.{are_equal_texts}
 use Rattle.tu_core.specs.Core.{Text, Literal, Cut, Cuts, NoCut, CutCharacter, CutPart, SetOf, FullSet, Scalars, NoScalar, AndScalar, Path, Name as named_path, OpenItem, Element, ResultOf, Selectors, End, Field, VariantField, Item, Subscripts, Call, Calls}
-use Rattle.tu_type_rules.specs.declared.fault.FaultKind.TheVariants.{Mismatch}
-use Rattle.tu_type_rules.specs.Checked.{Checked, Good, fault, both, ◌⊳◌}
-use Rattle.tu_type_rules.specs.Constants.{NoConstant, Is}
-use Rattle.tu_type_rules.specs.Types.{Name, Field as TypeField, Variant, TypeForm, Enumeration, SetOf as set_type, ArrayOf, Record, Union, row_at, bare_of, root_of}
-use Rattle.tu_type_rules.specs.Operands.{Bounds, Within, Kind, Whole, AnyText, AnyArray, Value, String, Members, Parts, Place, Operand, OfCall, at_mark, base_of, value_from, index_of, a_value, a_number, a_text, number_of, pointer_of_part}
-use Rattle.tu_type_rules.specs.Names.{Parameter, Head, Entity, Holds, TypeName, CollectionName, SubprogramName, ModuleName, State, entity_at, here, kind_here, form_of, element_type, stands, held}
+use Rattle.tu_type_base.specs.declared.fault.FaultKind.TheVariants.{Mismatch}
+use Rattle.tu_type_base.specs.Checked.{Checked, Good, fault, both, ◌⊳◌}
+use Rattle.tu_type_constants.specs.declared.constant.Constant.TheVariants.{NoConstant, Is}
+use Rattle.tu_type_table.specs.declared.types.Field.{Field as TypeField}
+use Rattle.tu_type_table.specs.declared.types.Variant.{Variant}
+use Rattle.tu_type_table.specs.declared.types.TypeForm.{TypeForm}
+use Rattle.tu_type_table.specs.declared.types.TypeForm.TheVariants.{Enumeration, SetOf as set_type, ArrayOf, Record, Union}
+use Rattle.tu_type_table.specs.Types.{Name, row_at, bare_of, root_of, base_of}
+use Rattle.tu_type_operands.specs.declared.kind.Bounds.{Bounds}
+use Rattle.tu_type_operands.specs.declared.kind.Bounds.TheVariants.{Within}
+use Rattle.tu_type_operands.specs.declared.kind.Kind.{Kind}
+use Rattle.tu_type_operands.specs.declared.kind.Kind.TheVariants.{Whole, AnyText, AnyArray}
+use Rattle.tu_type_operands.specs.declared.value.Value.{Value}
+use Rattle.tu_type_operands.specs.declared.value.Value.TheVariants.{String, Members, Parts}
+use Rattle.tu_type_operands.specs.declared.operand.Place.{Place}
+use Rattle.tu_type_operands.specs.Operands.{Operand, OfCall, at_mark, value_of_sort, sort_of_form, index_of, a_value, a_number, a_text, number_of, pointer_of_part, value_of, place_of}
+use Rattle.tu_type_operands.specs.declared.names.Parameter.{Parameter}
+use Rattle.tu_type_operands.specs.declared.names.Head.{Head}
+use Rattle.tu_type_operands.specs.declared.names.Entity.{Entity}
+use Rattle.tu_type_operands.specs.declared.names.Entity.TheVariants.{Holds, TypeName, CollectionName, SubprogramName, ModuleName}
+use Rattle.tu_type_operands.specs.declared.state.State.{State}
+use Rattle.tu_type_operands.specs.Names.{entity_at, here, kind_here, form_of, element_type, stands, held, head_of}
 use Rattle.tu_type_rules.specs.Arguments.{Argument, One, Two, All, value_in, spot_at, subscripts, actuals}
 use Rattle.tu_type_rules.specs.Functions.{Function, functions, named_in, predefined}
 
@@ -20,7 +36,7 @@ pub data Standing : Type 0 where
   -- is_foreign: a module has exported it
   StandsForCollection : (collection : ℕ) → (is_foreign : Bool) → Standing
   -- not called yet; with the invariant of the module that has exported it
-  StandsForSubprogram : (routine : ℕ) → Head → (invariant : Option ℕ) → Standing
+  StandsForSubprogram : (routine : ℕ) → (invariant : Option ℕ) → Standing
   StandsForFunction : Function → Standing
   StandsForModule : (invariant : Option ℕ) → Standing
   -- the call of a procedure
@@ -46,7 +62,7 @@ place_from n name (other ∷ more) = elim (are_equal_texts other name) [ true �
 
 abbrev pub field_from : (number : ℕ) → Name → List TypeField → Option (ℕ × ℕ)
 field_from n name [] = None
-field_from n name (f ∷ more) = elim (are_equal_texts f.name name) [ true ↦ Some (n, f.type) | false ↦ field_from (suc n) name more ]
+field_from n name (f ∷ more) = elim (are_equal_texts f.name name) [ true ↦ Some (n, f.type_number) | false ↦ field_from (suc n) name more ]
 
 -- the fields of a union are numbered through all its variants
 abbrev pub variant_field_from : (number : ℕ) → Name → List Variant → Option (ℕ × ℕ)
@@ -86,7 +102,7 @@ module _ (s : State) (m : Mark) where
   named_by is_foreign invariant (Holds x) = Stands (held s m is_foreign x)
   named_by is_foreign invariant (TypeName n) = StandsForType n
   named_by is_foreign invariant (CollectionName c) = StandsForCollection c is_foreign
-  named_by is_foreign invariant (SubprogramName r head) = StandsForSubprogram r head invariant
+  named_by is_foreign invariant (SubprogramName r) = StandsForSubprogram r invariant
   named_by is_foreign invariant (ModuleName i) = StandsForModule i
 
   abbrev pub named : (is_foreign : Bool) → (invariant : Option ℕ) → Option Entity → Checked Standing
@@ -113,7 +129,7 @@ module _ (s : State) (m : Mark) where
 
   abbrev pub called : (result : Option ℕ) → Call → Standing
   called None call = StandsForCall call
-  called (Some n) call = Stands (given_by n call (value_from s.types m.number (OfCall call) (here s n) (form_of s n)))
+  called (Some n) call = Stands (given_by n call (value_of_sort m.number (OfCall call) (sort_of_form s.types (here s n) (form_of s n))))
 
   abbrev pub parameter_here : Parameter → Parameter
   parameter_here p = record p { kind = kind_here s p.kind }
@@ -121,13 +137,16 @@ module _ (s : State) (m : Mark) where
   abbrev pub parameters_here : Head → List Parameter
   parameters_here head = map parameter_here head.parameters
 
-  abbrev pub call : (routine : ℕ) → Head → (invariant : Option ℕ) → List Argument → Checked Standing
-  call r head invariant args =
+  abbrev pub call_by : (routine : ℕ) → Head → (invariant : Option ℕ) → List Argument → Checked Standing
+  call_by r head invariant args =
       actuals s.types m (parameters_here head) args ⊳ λ given. Good (called head.result (Calls (at_mark m) r invariant given))
+
+  abbrev pub call : (routine : ℕ) → (invariant : Option ℕ) → List Argument → Checked Standing
+  call r invariant args = call_by r (head_of s r) invariant args
 
   -- a path that ends here, or goes on with a dot: what takes no parts is called
   abbrev pub completed : Standing → Checked Standing
-  completed (StandsForSubprogram r head invariant) = call r head invariant []
+  completed (StandsForSubprogram r invariant) = call r invariant []
   completed (StandsForFunction f) = predefined s.types m f [] ⊳ λ a. Good (Stands a)
   completed x = Good x
 
@@ -156,7 +175,7 @@ module _ (s : State) (m : Mark) where
   field_of name kind place = fault Mismatch m
 
   abbrev pub dotted_by : (name : Name) → (start : ℕ) → Standing → Checked Standing
-  dotted_by name start (Stands a) = field_of name a.kind a.place
+  dotted_by name start (Stands a) = field_of name a.kind (place_of a)
   dotted_by name start (StandsForType n) = value_of_enumeration n name (form_of s n)
   dotted_by name start (StandsForModule invariant) = named true invariant (entity_at s start)
   dotted_by name start other = fault Mismatch m
@@ -168,7 +187,7 @@ module _ (s : State) (m : Mark) where
 
   abbrev pub members_of : (root : ℕ) → List Argument → Checked Scalars
   members_of root [] = Good NoScalar
-  members_of root (x ∷ more) = both (value_in x ⊳ λ a. number_of root a.0 a.1.value) (members_of root more) ⊳ λ z. Good (AndScalar z.0 z.1)
+  members_of root (x ∷ more) = both (value_in x ⊳ λ a. number_of root a.0 (value_of a.1)) (members_of root more) ⊳ λ z. Good (AndScalar z.0 z.1)
 
   -- `S (a, b)` and `S (all)` of a set type
   abbrev pub set_of : (type base : ℕ) → List Argument → Checked Standing
@@ -181,7 +200,7 @@ module _ (s : State) (m : Mark) where
 
   -- the element that a pointer names
   abbrev pub element_of : (collection : ℕ) → (is_foreign : Bool) → List Argument → Checked Standing
-  element_of c is_foreign (x ∷ []) = value_in x ⊳ λ a. pointer_of_part c a.0 a.1.value ⊳ λ e.
+  element_of c is_foreign (x ∷ []) = value_in x ⊳ λ a. pointer_of_part c a.0 (value_of a.1) ⊳ λ e.
       Good (Stands (stands s m.number (Whole (element_type s c)) (record { path = Element (at_mark m) c e End; is_variable = not is_foreign; through = None }) NoConstant))
   element_of c is_foreign xs = fault Mismatch m
 
@@ -217,13 +236,13 @@ module _ (s : State) (m : Mark) where
 
   abbrev pub bracketed_value : Operand → List Argument → Value → Checked Standing
   bracketed_value a args (String e) = part_of_string m e args ⊳ λ b. Good (Stands b)
-  bracketed_value a args other = item_of a.kind a.declared a.place args
+  bracketed_value a args other = item_of a.kind a.declared (place_of a) args
 
   abbrev pub bracketed : Standing × List Argument → Checked Standing
-  bracketed (Stands a, args) = bracketed_value a args a.value
+  bracketed (Stands a, args) = bracketed_value a args (value_of a)
   bracketed (StandsForType n, args) = set_of_form n args (form_of s n)
   bracketed (StandsForCollection c is_foreign, args) = element_of c is_foreign args
-  bracketed (StandsForSubprogram r head invariant, args) = call r head invariant args
+  bracketed (StandsForSubprogram r invariant, args) = call r invariant args
   bracketed (StandsForFunction f, args) = predefined s.types m f args ⊳ λ a. Good (Stands a)
   bracketed (StandsForModule invariant, args) = fault Mismatch m
   bracketed (StandsForCall other, args) = fault Mismatch m

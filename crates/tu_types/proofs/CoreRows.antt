@@ -10,7 +10,7 @@ use Rattle.tu_core.specs.Targets.{ints}
 use Rattle.tu_core.specs.Leaving.{all_differ, routine_blocks}
 use Rattle.tu_core.specs.Measures.{Measure, nothing, of_block}
 use Rattle.tu_core.specs.Core.{Scalar, Literal, Use, Prefixed, Chain, CompareTexts, CompareSets, ComparePointers, Member, Length, PlaceIn, ByteOf, TextInt, Bound, AtEnd, CallScalar, NoLink, Link, Text, Written, UseText, Joined, Cut, Character, IntText, Repeat, CallText, Set, SetOf, FullSet, UseSet, Combined, CallSet, Pointer, Nil, UsePointer, CallPointer, NoScalar, AndScalar, Absent, Name, End, Field, Item, NoSubscript, Subscript, Calls, NoActual, Given, Lent, AScalar, AText, NoneShown, ShowInt, Assign, Put, Do, Variables, Arrays, Simply, Module, Block, Empty, Then, Declare, Program}
-use Rattle.tu_type_rules.specs.Checked.{Checked, Good, Faulty}
+use Rattle.tu_type_base.specs.Checked.{Checked, Good, Faulty}
 use Rattle.tu_type_rules.specs.Functions.{functions}
 use Rattle.tu_scope_rules.specs.Search.{predefined}
 use Rattle.tu_scope_rules.specs.Views.{view_of}

@@ -1,6 +1,6 @@
 -- Rows of longer programs.
 use Rattle.std.proofs.Common.{◌≡◌, codes, true, refl}
-use Rattle.tu_type_rules.specs.declared.fault.FaultKind.TheVariants.{Mismatch}
+use Rattle.tu_type_base.specs.declared.fault.FaultKind.TheVariants.{Mismatch}
 use Rattle.tu_type_rules.specs.Functions.{functions}
 use Rattle.tu_scope_rules.specs.Search.{predefined}
 use Rattle.tu_scope_rules.specs.Views.{view_of}

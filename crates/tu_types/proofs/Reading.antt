@@ -14,8 +14,8 @@ use Rattle.tu_scope_rules.specs.Uses.{uses_of}
 use Rattle.tu_scope_parts.specs.Walk.{events}
 use Rattle.tu_core.specs.Core.{Program}
 use Rattle.tu_core.specs.WellFormed.{is_well_formed}
-use Rattle.tu_type_rules.specs.declared.fault.FaultKind.{FaultKind}
-use Rattle.tu_type_rules.specs.Checked.{Checked, Good, Faulty, least, kind_number}
+use Rattle.tu_type_base.specs.declared.fault.FaultKind.{FaultKind}
+use Rattle.tu_type_base.specs.Checked.{Checked, Good, Faulty, least, kind_number}
 use Rattle.tu_types.specs.Programs.{program}
 
 -- blanks and line ends, and what stands between two of them; what has been read of the next piece is given backwards

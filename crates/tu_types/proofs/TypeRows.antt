@@ -1,6 +1,6 @@
 -- Rows of types: bounds, sizes, labels, and the types that are the same.
 use Rattle.std.proofs.Common.{◌≡◌, codes, true, refl}
-use Rattle.tu_type_rules.specs.declared.fault.FaultKind.TheVariants.{Misplaced, Mismatch, NotConstant, OutOfRange, BadCount, TooLarge}
+use Rattle.tu_type_base.specs.declared.fault.FaultKind.TheVariants.{Misplaced, Mismatch, NotConstant, OutOfRange, BadCount, TooLarge}
 use Rattle.tu_type_rules.specs.Functions.{functions}
 use Rattle.tu_scope_rules.specs.Search.{predefined}
 use Rattle.tu_scope_rules.specs.Views.{view_of}

@@ -15,12 +15,19 @@ use Rattle.grammar.specs.Description.{rule}
 use Rattle.tu_token.specs.Syntax.{Of}
 use Rattle.tu_expr.specs.Parts.{Part, further, start_of}
 use Rattle.tu_tree.specs.Forms.{Present, Absent, More, NoMore, Behind, Listed, ProcedureHead, FunctionHead, Formals, Formal as FormalNode}
-use Rattle.tu_type_rules.specs.declared.fault.FaultKind.TheVariants.{TooLarge}
-use Rattle.tu_type_rules.specs.Checked.{Checked, Good, ◌⊳◌, asks}
-use Rattle.tu_type_rules.specs.Constants.{NoConstant}
-use Rattle.tu_type_rules.specs.Types.{Row, bare_of, most_parts}
-use Rattle.tu_type_rules.specs.Operands.{Kind, Whole, AnyText, AnyArray, at_mark, index_of, target_of, target_at}
-use Rattle.tu_type_rules.specs.Names.{Parameter, Head, Holds, State, with_entity}
+use Rattle.tu_type_base.specs.declared.fault.FaultKind.TheVariants.{TooLarge}
+use Rattle.tu_type_base.specs.Checked.{Checked, Good, ◌⊳◌, asks}
+use Rattle.tu_type_constants.specs.declared.constant.Constant.TheVariants.{NoConstant}
+use Rattle.tu_type_table.specs.declared.types.Row.{Row}
+use Rattle.tu_type_table.specs.Types.{bare_of, most_parts}
+use Rattle.tu_type_operands.specs.declared.kind.Kind.{Kind}
+use Rattle.tu_type_operands.specs.declared.kind.Kind.TheVariants.{Whole, AnyText, AnyArray}
+use Rattle.tu_type_operands.specs.Operands.{at_mark, index_of, target_of, target_at}
+use Rattle.tu_type_operands.specs.declared.names.Parameter.{Parameter}
+use Rattle.tu_type_operands.specs.declared.names.Head.{Head}
+use Rattle.tu_type_operands.specs.declared.names.Entity.TheVariants.{Holds}
+use Rattle.tu_type_operands.specs.declared.state.State.{State}
+use Rattle.tu_type_operands.specs.Names.{with_entity}
 use Rattle.tu_type_parts.specs.Specs.{ForFormal, Named, name_at, names_of, spec, whole_spec}
 use Rattle.tu_type_parts.specs.Declarations.{is_too_large}
 use Rattle.tu_types.specs.Statements.{is_var}

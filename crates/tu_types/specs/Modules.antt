@@ -11,12 +11,16 @@ use Rattle.tu_expr.specs.Parts.{Part, further, mark_of, start_of}
 use Rattle.tu_tree.specs.Parts.{separated}
 use Rattle.tu_tree.specs.ProgramViews.{module_part}
 use Rattle.tu_tree.specs.Forms.{Present, Absent, More, NoMore, Behind, Listed, Separated, TypeDeclaration, Invariant, BracketedExport, PlainExport, ExportItem, Module, ModuleConst, ModuleVar, ModuleType, ModuleSubprogram, ModuleStatement, ModuleInvariant}
-use Rattle.tu_type_rules.specs.declared.fault.FaultKind.TheVariants.{Misplaced, Mismatch}
-use Rattle.tu_type_rules.specs.Checked.{Checked, Good, fault, ◌⊳◌, asks}
-use Rattle.tu_type_rules.specs.Operands.{at_mark, number_of}
-use Rattle.tu_type_rules.specs.Types.{boolean}
+use Rattle.tu_type_base.specs.declared.fault.FaultKind.TheVariants.{Misplaced, Mismatch}
+use Rattle.tu_type_base.specs.Checked.{Checked, Good, fault, ◌⊳◌, asks}
+use Rattle.tu_type_operands.specs.Operands.{at_mark, number_of, value_of}
+use Rattle.tu_type_table.specs.Types.{boolean}
 use Rattle.tu_type_parts.specs.Expressions.{expr}
-use Rattle.tu_type_rules.specs.Names.{ModuleName, ModuleText, no_module, State, declaration_in, with_entity}
+use Rattle.tu_type_operands.specs.declared.names.Entity.TheVariants.{ModuleName}
+use Rattle.tu_type_operands.specs.declared.state.ModuleText.{ModuleText}
+use Rattle.tu_type_operands.specs.declared.state.State.{State}
+use Rattle.tu_type_operands.specs.Tables.{declaration_at}
+use Rattle.tu_type_operands.specs.Names.{no_head, no_module, with_entity}
 use Rattle.tu_type_parts.specs.Specs.{Named, name_at}
 use Rattle.tu_type_parts.specs.Declarations.{Piece, OfStatement, block_of, is_among, constant, variable, type}
 use Rattle.tu_types.specs.Statements.{statement}
@@ -37,7 +41,7 @@ opaque_type types x (Some n) = asks (is_among types n) Mismatch x.at ⊳ λ _. G
 -- `opaque` stands before the name of a type
 abbrev pub exported : State → (types : List ℕ) → Of r-exp → Checked (List ℕ)
 exported s types (ExportItem m Absent name) = Good []
-exported s types (ExportItem m (Present word) name) = opaque_type types (name_at name) (declaration_in s.uses (start_of name))
+exported s types (ExportItem m (Present word) name) = opaque_type types (name_at name) (declaration_at s.uses (start_of name))
 
 abbrev pub more_exported : State → (types : List ℕ) → Part (many (further r-exp)) → Checked (List ℕ)
 more_exported s types NoMore = Good []
@@ -76,7 +80,7 @@ invariant_routine s m e = record {
 }
 
 abbrev pub with_invariant : State → Mark → Scalar → State
-with_invariant s m e = record s { routines = s.routines ++ invariant_routine s m e ∷ []; own = record s.own { invariant = Some (length s.routines, m.line) } }
+with_invariant s m e = record s { heads = s.heads ++ no_head ∷ []; routines = s.routines ++ invariant_routine s m e ∷ []; own = record s.own { invariant = Some (length s.routines, m.line) } }
 
 -- A module has one at most.
 abbrev pub is_free : {A : Type 0} → Option A → Bool
@@ -84,7 +88,7 @@ is_free None = true
 is_free (Some x) = false
 
 abbrev pub invariant : State → Of r-invariant → Checked State
-invariant s (Invariant m _ e) = expr s e ⊳ λ a. asks (is_free s.own.invariant) Misplaced m ⊳ λ _. number_of boolean (mark_of e) a.value ⊳ λ x. Good (with_invariant s m x)
+invariant s (Invariant m _ e) = expr s e ⊳ λ a. asks (is_free s.own.invariant) Misplaced m ⊳ λ _. number_of boolean (mark_of e) (value_of a) ⊳ λ x. Good (with_invariant s m x)
 
 -- ---- bodies
 

@@ -11,11 +11,12 @@ use Rattle.tu_token.specs.Syntax.{Of}
 use Rattle.tu_expr.specs.Parts.{Part}
 use Rattle.tu_tree.specs.Parts.{separated}
 use Rattle.tu_tree.specs.Forms.{More, NoMore, Separated, Program, ItemConst, ItemVar, ItemType, ItemSubprogram, ItemModule, ItemStatement}
-use Rattle.tu_type_rules.specs.declared.fault.FaultKind.TheVariants.{TooLarge}
-use Rattle.tu_type_rules.specs.declared.fault.Fault.{Fault}
-use Rattle.tu_type_rules.specs.Checked.{Checked, Good, Faulty, least, ◌⊳◌, asks}
-use Rattle.tu_type_rules.specs.Types.{bare_of, shapes_of}
-use Rattle.tu_type_rules.specs.Names.{State, start}
+use Rattle.tu_type_base.specs.declared.fault.FaultKind.TheVariants.{TooLarge}
+use Rattle.tu_type_base.specs.declared.fault.Fault.{Fault}
+use Rattle.tu_type_base.specs.Checked.{Checked, Good, Faulty, least, ◌⊳◌, asks}
+use Rattle.tu_type_table.specs.Types.{bare_of, shapes_of}
+use Rattle.tu_type_operands.specs.declared.state.State.{State}
+use Rattle.tu_type_operands.specs.Names.{start}
 use Rattle.tu_type_parts.specs.Declarations.{Piece, OfStatement, block_of, constant, variable, type}
 use Rattle.tu_types.specs.Statements.{statement}
 use Rattle.tu_types.specs.Subprograms.{subprogram}

@@ -16,12 +16,21 @@ use Rattle.tu_expr.specs.Parts.{Part, further, mark_of}
 use Rattle.tu_tree.specs.Parts.{separated}
 use Rattle.tu_tree.specs.StatementViews.{block_part, elses, simple}
 use Rattle.tu_tree.specs.Forms.{Present, Absent, More, NoMore, Behind, Listed, Separated, Block as BlockNode, BlockConst, BlockVar, BlockType, BlockBind, BlockStatement, BindDeclaration, Binding, BoundedRange, NamedRange, Invariant, Assign, CallOf, If, Elsif, Loop, For, Case, Arm, LastArm, Begin, Simple, Exit, ExitWhen, Return, Result, Assert, New, Free, Tag, Put, Get, Open, Close, Quit, QuitWith}
-use Rattle.tu_type_rules.specs.declared.fault.FaultKind.TheVariants.{Misplaced, Mismatch}
-use Rattle.tu_type_rules.specs.Checked.{Checked, Good, fault, both, ◌⊳◌, asks}
-use Rattle.tu_type_rules.specs.Constants.{NoConstant}
-use Rattle.tu_type_rules.specs.Types.{Row, bare_of, root_of, span_of, int, boolean}
-use Rattle.tu_type_rules.specs.Operands.{Kind, Whole, AnyText, AnyArray, Value, Number, Place, Operand, at_mark, index_of, number_of}
-use Rattle.tu_type_rules.specs.Names.{Holds, Around, State, here, with_entity, with_local, next_local}
+use Rattle.tu_type_base.specs.declared.fault.FaultKind.TheVariants.{Misplaced, Mismatch}
+use Rattle.tu_type_base.specs.Checked.{Checked, Good, fault, both, ◌⊳◌, asks}
+use Rattle.tu_type_constants.specs.declared.constant.Constant.TheVariants.{NoConstant}
+use Rattle.tu_type_table.specs.declared.types.Row.{Row}
+use Rattle.tu_type_table.specs.Types.{bare_of, root_of, span_of, int, boolean}
+use Rattle.tu_type_operands.specs.declared.kind.Kind.{Kind}
+use Rattle.tu_type_operands.specs.declared.kind.Kind.TheVariants.{Whole, AnyText, AnyArray}
+use Rattle.tu_type_operands.specs.declared.value.Value.{Value}
+use Rattle.tu_type_operands.specs.declared.value.Value.TheVariants.{Number}
+use Rattle.tu_type_operands.specs.declared.operand.Place.{Place}
+use Rattle.tu_type_operands.specs.Operands.{Operand, at_mark, index_of, number_of, value_of, place_of}
+use Rattle.tu_type_operands.specs.declared.names.Entity.TheVariants.{Holds}
+use Rattle.tu_type_operands.specs.declared.state.Around.{Around}
+use Rattle.tu_type_operands.specs.declared.state.State.{State}
+use Rattle.tu_type_operands.specs.Names.{here, with_entity, with_local, next_local}
 use Rattle.tu_type_parts.specs.Expressions.{expr, path}
 use Rattle.tu_type_parts.specs.Ranges.{range_root, labels, index_type}
 use Rattle.tu_type_parts.specs.Specs.{Named, name_at, exprs}
@@ -32,7 +41,7 @@ use Rattle.tu_types.specs.Streams.{put, get, open_statement, close}
 -- ---- statements without blocks
 
 abbrev pub exit_when : State → Mark → Of r-expr → Checked Plain
-exit_when s m e = expr s e ⊳ λ a. asks s.around.in_loop Misplaced m ⊳ λ _. number_of (boolean) (mark_of e) a.value ⊳ λ x. Good (ExitOf (OneThere x))
+exit_when s m e = expr s e ⊳ λ a. asks s.around.in_loop Misplaced m ⊳ λ _. number_of (boolean) (mark_of e) (value_of a) ⊳ λ x. Good (ExitOf (OneThere x))
 
 abbrev pub plain : State → Mark → Part simple → Checked Plain
 plain s m (Exit _) = asks s.around.in_loop Misplaced m ⊳ λ _. Good (ExitOf NoneThere)
@@ -42,13 +51,13 @@ plain s m (Result _ e) = expr s e ⊳ result s m (mark_of e) s.around.owner
 plain s m (Assert _ e) = condition s e ⊳ λ x. Good (Check Asserts x)
 plain s m (New _ c _ p) = both (path s c) (operand_at s p) ⊳ of_pointer (λ n to. NewOf n (at_mark (mark_of c)) to) (mark_of c) (mark_of p)
 plain s m (Free _ c _ p) = both (path s c) (operand_at s p) ⊳ of_pointer (λ n to. FreeOf n (at_mark (mark_of c)) to) (mark_of c) (mark_of p)
-plain s m (Tag _ u _ e) = both (operand_at s u) (expr s e) ⊳ λ z. tagged s (mark_of u) (mark_of e) z.1 z.0.kind z.0.place
+plain s m (Tag _ u _ e) = both (operand_at s u) (expr s e) ⊳ λ z. tagged s (mark_of u) (mark_of e) z.1 z.0.kind (place_of z.0)
 plain s m (Put _ stream parts open_end) = put s stream parts open_end
 plain s m (Get _ stream parts) = get s stream parts
 plain s m (Open _ _ to _ e _ mode) = open_statement s to e mode
 plain s m (Close _ _ e) = close s e
 plain s m (Quit _) = asks s.around.in_handler Misplaced m ⊳ λ _. Good (QuitOf NoneThere)
-plain s m (QuitWith _ _ e) = expr s e ⊳ λ a. number_of int (mark_of e) a.value ⊳ λ x. Good (QuitOf (OneThere x))
+plain s m (QuitWith _ _ e) = expr s e ⊳ λ a. number_of int (mark_of e) (value_of a) ⊳ λ x. Good (QuitOf (OneThere x))
 
 abbrev pub simply : State → Mark → Plain → Checked (State × Statement)
 simply s m x = Good (s, Simply (at_mark m) x)
@@ -78,7 +87,7 @@ pub record Course : Type 0 where
 
 abbrev pub from_to : State → (m n : Mark) → Operand × Operand → Checked Course
 from_to s m n z =
-    range_root m z.0.value ⊳ λ root. number_of root m z.0.value ⊳ λ a. number_of root n z.1.value ⊳ λ b.
+    range_root m (value_of z.0) ⊳ λ root. number_of root m (value_of z.0) ⊳ λ a. number_of root n (value_of z.1) ⊳ λ b.
     Good (record { range = FromTo a b; root = root; span = span_of s.types root; through = None })
 
 abbrev pub course : State → Of r-range → Checked Course
@@ -143,7 +152,7 @@ bound s m x by_var kind place = (
 )
 
 abbrev pub binding : State → (m : Mark) → Of r-binding → Checked (State × Piece)
-binding s m (Binding n var name _ x) = operand_at s x ⊳ λ a. bound_place (is_var var) (mark_of x) a.place ⊳ λ place. Good (bound s m (name_at name) (is_var var) a.declared place)
+binding s m (Binding n var name _ x) = operand_at s x ⊳ λ a. bound_place (is_var var) (mark_of x) (place_of a) ⊳ λ place. Good (bound s m (name_at name) (is_var var) a.declared place)
 
 abbrev pub more_bindings : State → (m : Mark) → Part (many (further r-binding)) → Checked (State × List Piece)
 more_bindings s m NoMore = Good (s, [])
@@ -170,7 +179,7 @@ abbrev mutual
   statement s (For m _ decreasing name _ range invariant body _ _) =
       course s range ⊳ λ c. loop_invariant (with_index s (name_at name) c) invariant ⊳ λ x. block (in_loop (with_index s (name_at name) c)) body ⊳ λ a.
       Good (around_again s.around a.0, ForOf (at_mark m) (next_local s) (is_decreasing decreasing) c.range x a.1)
-  statement s (Case m _ e _ xs _ _) = expr s e ⊳ λ a. subject s (mark_of e) a.kind a.value ⊳ λ x. arms x s xs ⊳ λ b. Good (b.0, CaseOf (at_mark m) x.number b.1)
+  statement s (Case m _ e _ xs _ _) = expr s e ⊳ λ a. subject s (mark_of e) a.kind (value_of a) ⊳ λ x. arms x s xs ⊳ λ b. Good (b.0, CaseOf (at_mark m) x.number b.1)
   statement s (Begin m _ body _) = block s body ⊳ λ a. Good (a.0, BeginOf (at_mark m) a.1)
   statement s (Simple m x) = plain s m x ⊳ simply s m
 

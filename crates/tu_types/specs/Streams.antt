@@ -12,11 +12,14 @@ use Rattle.tu_token.specs.Syntax.{Of}
 use Rattle.tu_expr.specs.Parts.{Part, further, mark_of}
 use Rattle.tu_tree.specs.StatementViews.{streams, modes, widths, amounts}
 use Rattle.tu_tree.specs.Forms.{Present, Absent, More, NoMore, Behind, Listed, Stream, Shown as ShownNode, Taken as TakenNode, WholeLine, CountOf, PutMode, GetMode}
-use Rattle.tu_type_rules.specs.declared.fault.FaultKind.TheVariants.{Mismatch}
-use Rattle.tu_type_rules.specs.Checked.{Checked, Good, fault, both, ◌⊳◌, asks}
-use Rattle.tu_type_rules.specs.Types.{int, boolean}
-use Rattle.tu_type_rules.specs.Operands.{Value, Number, String, Place, Operand, target_at, number_of, text_of_part}
-use Rattle.tu_type_rules.specs.Names.{State}
+use Rattle.tu_type_base.specs.declared.fault.FaultKind.TheVariants.{Mismatch}
+use Rattle.tu_type_base.specs.Checked.{Checked, Good, fault, both, ◌⊳◌, asks}
+use Rattle.tu_type_table.specs.Types.{int, boolean}
+use Rattle.tu_type_operands.specs.declared.value.Value.{Value}
+use Rattle.tu_type_operands.specs.declared.value.Value.TheVariants.{Number, String}
+use Rattle.tu_type_operands.specs.declared.operand.Place.{Place}
+use Rattle.tu_type_operands.specs.Operands.{Operand, target_at, number_of, text_of_part, value_of, place_of}
+use Rattle.tu_type_operands.specs.declared.state.State.{State}
 use Rattle.tu_type_parts.specs.Expressions.{expr}
 use Rattle.tu_types.specs.Simple.{changed, operand_at}
 
@@ -35,7 +38,7 @@ width s (Present (Behind _ e)) = expr s e ⊳ λ a. Good (Some (mark_of e, a))
 -- an int, if it is there
 abbrev pub optional_int : Maybe → Checked Optional
 optional_int None = Good NoneThere
-optional_int (Some x) = number_of int x.0 x.1.value ⊳ λ e. Good (OneThere e)
+optional_int (Some x) = number_of int x.0 (value_of x.1) ⊳ λ e. Good (OneThere e)
 
 -- ---- put
 
@@ -65,7 +68,7 @@ shows m other = fault Mismatch m
 
 abbrev pub shown : List ShownPart → Checked Shown
 shown [] = Good NoneShown
-shown (x ∷ more) = both (both (shows x.at x.operand.value) (optional_int x.width)) (shown more) ⊳ λ z. Good (z.0.0 z.0.1 z.1)
+shown (x ∷ more) = both (both (shows x.at (value_of x.operand)) (optional_int x.width)) (shown more) ⊳ λ z. Good (z.0.0 z.0.1 z.1)
 
 abbrev pub ends_line : Part (maybe (t SignRange)) → Bool
 ends_line Absent = true
@@ -111,7 +114,7 @@ pub data How : Type 0 where
 abbrev pub how : Amount → Checked How
 how Token = Good AToken
 how Line = Good ALine
-how (Count m a) = number_of int m a.value ⊳ λ e. Good (ACount e)
+how (Count m a) = number_of int m (value_of a) ⊳ λ e. Good (ACount e)
 
 abbrev pub is_token : Amount → Bool
 is_token Token = true
@@ -134,7 +137,7 @@ takes m as_token value target = fault Mismatch m
 
 -- a target that is a variable
 abbrev pub takes_variable : State → TakenPart → Checked (How → Taken → Taken)
-takes_variable s x = takes x.at (is_token x.amount) x.operand.value (target_at s.types x.operand.kind) ⊳ λ f. changed x.at x.operand.place ⊳ λ p. Good (λ h. f h p)
+takes_variable s x = takes x.at (is_token x.amount) (value_of x.operand) (target_at s.types x.operand.kind) ⊳ λ f. changed x.at (place_of x.operand) ⊳ λ p. Good (λ h. f h p)
 
 abbrev pub takes_one : State → TakenPart → Checked (Taken → Taken)
 takes_one s x = both (how x.amount) (takes_variable s x) ⊳ λ z. Good (z.1 z.0)
@@ -159,10 +162,10 @@ int_variable m place value target = fault Mismatch m
 
 abbrev pub opened : State → (m n : Mark) → (for_put : Bool) → Operand × Operand → Checked Plain
 opened s m n for_put z =
-    both (int_variable m z.0.place z.0.value (target_at s.types z.0.kind)) (text_of_part n z.1.value) ⊳ λ y. Good (OpenStream y.0.0 y.0.1 y.1 for_put)
+    both (int_variable m (place_of z.0) (value_of z.0) (target_at s.types z.0.kind)) (text_of_part n (value_of z.1)) ⊳ λ y. Good (OpenStream y.0.0 y.0.1 y.1 for_put)
 
 abbrev pub open_statement : State → Of r-path → Of r-expr → Part modes → Checked Plain
 open_statement s x e mode = both (operand_at s x) (expr s e) ⊳ opened s (mark_of x) (mark_of e) (is_put mode)
 
 abbrev pub close : State → Of r-expr → Checked Plain
-close s e = expr s e ⊳ λ a. number_of int (mark_of e) a.value ⊳ λ k. Good (Close k)
+close s e = expr s e ⊳ λ a. number_of int (mark_of e) (value_of a) ⊳ λ k. Good (Close k)

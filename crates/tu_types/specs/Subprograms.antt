@@ -14,12 +14,21 @@ use Rattle.tu_token.specs.Rules.{r-import, r-imp, r-head, r-rest, r-pre, r-given
 use Rattle.tu_token.specs.Syntax.{Of}
 use Rattle.tu_expr.specs.Parts.{Part, further, mark_of, start_of}
 use Rattle.tu_tree.specs.Forms.{Present, Absent, More, NoMore, Behind, Listed, ForwardSubprogram, WholeSubprogram, BodySubprogram, ProcedureHead, FunctionHead, Rest, Pre, Givens, Given, Post, Handler as HandlerNode, Ending, BracketedImport, PlainImport, ImportItem, Block as BlockNode}
-use Rattle.tu_type_rules.specs.declared.fault.FaultKind.TheVariants.{Mismatch}
-use Rattle.tu_type_rules.specs.Checked.{Checked, Good, fault, ◌⊳◌}
-use Rattle.tu_type_rules.specs.Constants.{NoConstant}
-use Rattle.tu_type_rules.specs.Types.{Row, int}
-use Rattle.tu_type_rules.specs.Operands.{Whole, at_mark}
-use Rattle.tu_type_rules.specs.Names.{Head, Entity, Holds, CollectionName, SubprogramName, Owner, OfProcedure, OfFunction, State, declaration_in, entity_of, entity_at, with_entity, with_local, next_local}
+use Rattle.tu_type_base.specs.declared.fault.FaultKind.TheVariants.{Mismatch}
+use Rattle.tu_type_base.specs.Checked.{Checked, Good, fault, ◌⊳◌}
+use Rattle.tu_type_constants.specs.declared.constant.Constant.TheVariants.{NoConstant}
+use Rattle.tu_type_table.specs.declared.types.Row.{Row}
+use Rattle.tu_type_table.specs.Types.{int}
+use Rattle.tu_type_operands.specs.declared.kind.Kind.TheVariants.{Whole}
+use Rattle.tu_type_operands.specs.Operands.{at_mark}
+use Rattle.tu_type_operands.specs.declared.names.Head.{Head}
+use Rattle.tu_type_operands.specs.declared.names.Entity.{Entity}
+use Rattle.tu_type_operands.specs.declared.names.Entity.TheVariants.{Holds, CollectionName, SubprogramName}
+use Rattle.tu_type_operands.specs.declared.state.Owner.{Owner}
+use Rattle.tu_type_operands.specs.declared.state.Owner.TheVariants.{OfProcedure, OfFunction}
+use Rattle.tu_type_operands.specs.declared.state.State.{State}
+use Rattle.tu_type_operands.specs.Tables.{declaration_at}
+use Rattle.tu_type_operands.specs.Names.{head_of, entity_of, entity_at, with_entity, with_local, next_local}
 use Rattle.tu_type_parts.specs.Expressions.{expr}
 use Rattle.tu_type_parts.specs.Specs.{name_at}
 use Rattle.tu_type_parts.specs.Starts.{Plain, fitted}
@@ -36,7 +45,7 @@ pub record Listing : Type 0 where
   pub by_var : Bool
 
 abbrev pub listing : State → Of r-imp → Listing
-listing s (ImportItem m var name) = record { declaration = declaration_in s.uses (start_of name); by_var = is_var var }
+listing s (ImportItem m var name) = record { declaration = declaration_at s.uses (start_of name); by_var = is_var var }
 
 abbrev pub more_listings : State → Part (many (further r-imp)) → List Listing
 more_listings s NoMore = []
@@ -110,7 +119,7 @@ head_start (FunctionHead m _ name items result _ type) = start_of name
 
 -- the subprogram is known from its head on
 abbrev pub known : State → (declaration : ℕ) → Head → State
-known s n h = with_entity (record s { routines = s.routines ++ begun_routine s.types h ∷ [] }) n (SubprogramName (length s.routines) h)
+known s n h = with_entity (record s { heads = s.heads ++ h ∷ []; routines = s.routines ++ begun_routine s.types h ∷ [] }) n (SubprogramName (length s.routines))
 
 -- ---- bodies
 
@@ -189,7 +198,7 @@ routine s n h x = body_of (begun_routine s.types h) (with_result (within s h) h.
 
 -- the body of a `forward`
 abbrev pub awaited : State → Mark → Of r-rest → Option Entity → Checked State
-awaited s m x (Some (SubprogramName n h)) = routine s n h x
+awaited s m x (Some (SubprogramName n)) = routine s n (head_of s n) x
 awaited s m x other = fault Mismatch m
 
 -- a subprogram with its head and its import list

@@ -1,9 +1,9 @@
 -- What a form comes to where its types are checked: something good, or faults.
 use Rattle.std.specs.Prelude.{ℕ, ◌+◌, ◌*◌, Bool, nat_lt, List, [], ◌∷◌, ◌++◌, if◌then◌else◌}
 use Rattle.grammar.specs.Tree.{Mark}
-use Rattle.tu_type_rules.specs.declared.fault.FaultKind.{FaultKind}
-use Rattle.tu_type_rules.specs.declared.fault.FaultKind.TheVariants.{Misplaced, Mismatch, NotConstant, OutOfRange, NotVariable, BadCount, TooLarge}
-use Rattle.tu_type_rules.specs.declared.fault.Fault.{Fault}
+use Rattle.tu_type_base.specs.declared.fault.FaultKind.{FaultKind}
+use Rattle.tu_type_base.specs.declared.fault.FaultKind.TheVariants.{Misplaced, Mismatch, NotConstant, OutOfRange, NotVariable, BadCount, TooLarge}
+use Rattle.tu_type_base.specs.declared.fault.Fault.{Fault}
 
 -- the order of kinds on one place
 abbrev pub kind_number : FaultKind → ℕ

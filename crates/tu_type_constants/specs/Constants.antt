@@ -1,22 +1,26 @@
 -- The values of constant expressions: those of literals, enumeration values, constants that have constant values, and operators on them.
-use Rattle.std.specs.Prelude.{ℕ, Bool, List, [], ◌∷◌, ℤ, Option, Some, None}
+use Rattle.std.specs.Prelude.{ℕ, Bool, List, [], ◌∷◌, ℤ, Option, Some, None, if◌then◌else◌}
 use Rattle.tu_base.specs.declared.operator.Relation.{Relation}
 use Rattle.tu_base.specs.declared.operator.Unary.{Unary}
 use Rattle.tu_base.specs.declared.operator.Binary.{Binary}
 use Rattle.tu_base.specs.declared.operator.Junction.{Junction}
-use Rattle.tu_base.specs.Scalars.{Answer, Gives, Raises, unary, binary, decided, is_true, truth_number}
+use Rattle.tu_type_constants.specs.declared.constant.Constant.{Constant}
+use Rattle.tu_type_constants.specs.declared.constant.Constant.TheVariants.{NoConstant, Raising, Is, IsText}
+use Rattle.tu_base.specs.Scalars.{Answer, Gives, Raises, is_int, unary, binary, decided, is_true, truth_number}
 use Rattle.tu_base.specs.Texts.{compare_texts, joined}
 
+-- the int that an operator answers, if it answers one
+abbrev pub int_in : Answer ℤ → Option ℤ
+int_in (Gives z units) = if is_int z then Some z else None
+int_in (Raises exception units) = None
+
 -- An expression is no constant expression, or it is one that would raise an exception, or it has a value.
-pub data Constant : Type 0 where
-  NoConstant : Constant
-  Raising : Constant
-  Is : ℤ → Constant
-  IsText : List ℕ → Constant
+abbrev pub of_int : Option ℤ → Constant
+of_int (Some z) = Is z
+of_int None = Raising
 
 abbrev pub of_number : Answer ℤ → Constant
-of_number (Gives z units) = Is z
-of_number (Raises exception units) = Raising
+of_number answer = of_int (int_in answer)
 
 abbrev pub of_truth : Answer Bool → Constant
 of_truth (Gives b units) = Is (truth_number b)

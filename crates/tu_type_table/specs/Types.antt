@@ -1,6 +1,6 @@
 -- Types by their numbers, in a table that only grows. A type that is written again gets the number that it has, and a written enumeration,
 -- record or union is the same as itself alone. A type names lower numbers, so that none is spelled out twice.
-use Rattle.std.specs.Prelude.{ℕ, suc, ◌==◌, Bool, true, false, ◌&&◌, List, [], ◌∷◌, ◌++◌, length, map, min, slice_get, sum_by, nat_lt, ℤ, pos, neg_ℤ, Option, Some, None, if◌then◌else◌}
+use Rattle.std.specs.Prelude.{ℕ, suc, ◌==◌, Bool, true, false, ◌&&◌, List, [], ◌∷◌, ◌++◌, length, map, min, slice_get, sum_by, nat_lt, pos, neg_ℤ, Option, Some, None, if◌then◌else◌}
 use Rattle.tu_base.specs.declared.limits.TheConstants.{MOST_INT, MOST_TEXT_BYTES}
 use Rattle.tu_base.specs.declared.shape.Span.{Span}
 use Rattle.tu_base.specs.declared.shape.Variant.{Variant as ShapeVariant}
@@ -8,36 +8,17 @@ use Rattle.tu_base.specs.declared.shape.Shape.{Shape}
 use Rattle.tu_base.specs.declared.shape.Shape.TheVariants.{Scalar as scalar_shape, Text as text_shape, Set as set_shape, Pointer as pointer_shape, Array as array_shape, Record as record_shape, Union as union_shape}
 use Rattle.tu_base.specs.Scalars.{are_equal}
 use Rattle.tu_base.specs.Shapes.{span_length, words_of}
+use Rattle.tu_base.specs.Sets.{Base}
+use Rattle.tu_type_table.specs.declared.limits.TheConstants.{MOST_WORDS, MOST_PARTS}
+use Rattle.tu_type_table.specs.declared.types.Field.{Field}
+use Rattle.tu_type_table.specs.declared.types.Variant.{Variant}
+use Rattle.tu_type_table.specs.declared.types.TypeForm.{TypeForm}
+use Rattle.tu_type_table.specs.declared.types.TypeForm.TheVariants.{Int, Boolean, Subrange, Enumeration, String, SetOf, PointerTo, ArrayOf, Record, Union, Opaque}
+use Rattle.tu_type_table.specs.declared.types.Row.{Row}
 
 -- the bytes of a name
 abbrev pub Name : Type 0
 Name = List ℕ
-
-pub record Field : Type 0 where
-  pub name : Name
-  pub type : ℕ
-
--- The fields that a union has while its tag is one of these labels; without labels, while it is any that no other variant has.
-pub record Variant : Type 0 where
-  pub labels : List ℤ
-  pub fields : List Field
-
--- `written` is the number of the node that writes the type.
-pub data TypeForm : Type 0 where
-  Int : TypeForm
-  Boolean : TypeForm
-  -- of int, or of an enumeration
-  Subrange : (root : ℕ) → (low high : ℤ) → TypeForm
-  Enumeration : (written : ℕ) → (values : List Name) → TypeForm
-  String : (most : ℕ) → TypeForm
-  SetOf : (base : ℕ) → TypeForm
-  PointerTo : (collection : ℕ) → TypeForm
-  ArrayOf : (indexes : List ℕ) → (component : ℕ) → TypeForm
-  Record : (written : ℕ) → (fields : List Field) → TypeForm
-  -- the tag may be without a name
-  Union : (written : ℕ) → (tag_name : Option Name) → (tag : ℕ) → (variants : List Variant) → TypeForm
-  -- a type that a module exports as opaque
-  Opaque : (written : ℕ) → TypeForm
 
 abbrev pub are_same_numbers : List ℕ → List ℕ → Bool
 are_same_numbers [] [] = true
@@ -60,16 +41,6 @@ are_same (Union m tag_name tag variants) (Union n other_name other others) = m =
 are_same (Opaque m) (Opaque n) = m == n
 are_same a b = false
 
--- A type of the table. Within the body of the module whose text it is of (`home`) the opaque types of that module are seen through: there it
--- is the type `inside`. Where all opaque types are seen through it is the type `bare`, whose shape its values have. `words` are cut off one
--- above the limit.
-pub record Row : Type 0 where
-  pub form : TypeForm
-  pub home : Option ℕ
-  pub inside : ℕ
-  pub bare : ℕ
-  pub words : ℕ
-
 -- the numbers of int, boolean and string in every table
 abbrev pub int : ℕ
 int = 0
@@ -82,11 +53,11 @@ string = 2
 
 -- the most words of a type, and of all globals
 abbrev pub most_words : ℕ
-most_words = 4194304
+most_words = MOST_WORDS
 
 -- the most index types in one list of an array, and the most labels of a union
 abbrev pub most_parts : ℕ
-most_parts = 32
+most_parts = MOST_PARTS
 
 abbrev pub limited : ℕ → ℕ
 limited n = min n (suc most_words)
@@ -124,8 +95,12 @@ module _ (types : List Row) where
   abbrev pub span_of : ℕ → Span
   span_of n = span_of_form (bare_form n)
 
+  -- the numbers of a set over a type
+  abbrev pub base_of : ℕ → Base
+  base_of n = record { low = (span_of n).low; members = span_length (span_of n) }
+
   abbrev pub field_shapes : List Field → List ℕ
-  field_shapes fields = map (λ f. bare_of f.type) fields
+  field_shapes fields = map (λ f. bare_of f.type_number) fields
 
   abbrev pub variant_shape : Variant → ShapeVariant
   variant_shape v = record { labels = v.labels; fields = field_shapes v.fields }

@@ -1,8 +1,6 @@
 -- What an expression comes to: its type, its value as the core has it, and where it is a place, that place.
-use Rattle.std.specs.Prelude.{ℕ, ◌==◌, Bool, true, false, ◌||◌, List, ℤ, Option, Some, None}
+use Rattle.std.specs.Prelude.{ℕ, ◌==◌, Bool, true, false, ◌||◌, List, Option, Some, None}
 use Rattle.grammar.specs.Tree.{Mark}
-use Rattle.tu_base.specs.Sets.{Base}
-use Rattle.tu_base.specs.Shapes.{span_length}
 use Rattle.tu_core.specs.declared.names.At.{At}
 use Rattle.tu_core.specs.declared.targets.Index.{Index}
 use Rattle.tu_core.specs.declared.targets.Index.TheVariants.{Known, Open}
@@ -10,45 +8,28 @@ use Rattle.tu_core.specs.declared.targets.Size.TheVariants.{Most, AtName}
 use Rattle.tu_core.specs.declared.targets.Target.{Target}
 use Rattle.tu_core.specs.declared.targets.Target.TheVariants.{TakesScalar, TakesText, TakesSet, TakesPointer}
 use Rattle.tu_core.specs.Core.{Scalar, Use, CallScalar, Text, UseText, CallText, Set, UseSet, CallSet, Pointer, UsePointer, CallPointer, Path, Call, Simple, AScalar, AText, ASet, APointer}
-use Rattle.tu_type_rules.specs.declared.fault.FaultKind.TheVariants.{Mismatch}
-use Rattle.tu_type_rules.specs.Checked.{Checked, Good, fault, asks, ◌⊳◌}
-use Rattle.tu_type_rules.specs.Constants.{Constant}
-use Rattle.tu_type_rules.specs.Types.{TypeForm, Row, Int, Boolean, Subrange, Enumeration, String as string_type, SetOf as set_type, PointerTo as pointer_type, ArrayOf, Record, Union, Opaque, row_at, bare_form, span_of_form, span_of, string}
+use Rattle.tu_type_base.specs.declared.fault.FaultKind.TheVariants.{Mismatch}
+use Rattle.tu_type_base.specs.Checked.{Checked, Good, fault, asks, ◌⊳◌}
+use Rattle.tu_type_constants.specs.declared.constant.Constant.{Constant}
+use Rattle.tu_type_table.specs.declared.types.TypeForm.{TypeForm}
+use Rattle.tu_type_table.specs.declared.types.Row.{Row}
+use Rattle.tu_type_table.specs.declared.types.TypeForm.TheVariants.{Int, Boolean, Subrange, Enumeration, String as string_type, SetOf as set_type, PointerTo as pointer_type, ArrayOf, Record, Union, Opaque}
+use Rattle.tu_type_table.specs.Types.{row_at, bare_form, span_of_form, span_of, string, base_of}
+use Rattle.tu_type_operands.specs.declared.kind.Bounds.{Bounds}
+use Rattle.tu_type_operands.specs.declared.kind.Bounds.TheVariants.{Within, From}
+use Rattle.tu_type_operands.specs.declared.kind.Kind.{Kind}
+use Rattle.tu_type_operands.specs.declared.kind.Kind.TheVariants.{Whole, AnyText, AnyArray}
+use Rattle.tu_type_operands.specs.declared.value.Value.{Value}
+use Rattle.tu_type_operands.specs.declared.value.Value.TheVariants.{Number, String, Members, Points, Sealed, Parts}
+use Rattle.tu_type_operands.specs.declared.operand.Place.{Place}
+use Rattle.tu_type_operands.specs.declared.operand.Sort.{Sort}
+use Rattle.tu_type_operands.specs.declared.operand.Sort.TheVariants.{NumberSort, StringSort, MembersSort, PointsSort, SealedNumber, SealedText, SealedSet, SealedPointer, PartsSort}
+use Rattle.tu_type_operands.specs.declared.operand.Found.{Found}
+use Rattle.tu_type_operands.specs.declared.operand.Found.TheVariants.{AtPlace, AValue}
+use Rattle.tu_type_operands.specs.declared.operand.OperandForm.{OperandForm}
 
--- An index of an array whose bounds stand at its name: an index type, or numbers of a root from a lower bound on.
-pub data Bounds : Type 0 where
-  Within : (index : ℕ) → Bounds
-  From : (root : ℕ) → (low : ℤ) → Bounds
-
--- The type of a name or place: one of the table, `string (*)`, or an array with bounds that stand at its name.
-pub data Kind : Type 0 where
-  Whole : (type : ℕ) → Kind
-  AnyText : Kind
-  AnyArray : List Bounds → (component : ℕ) → Kind
-
--- A value by what operators ask of it. What is of an opaque type is sealed: no operator takes it.
-pub data Value : Type 0 where
-  Number : (root : ℕ) → Scalar → Value
-  String : Text → Value
-  Members : (base : ℕ) → Set → Value
-  Points : (collection : ℕ) → Pointer → Value
-  Sealed : Simple → Value
-  -- an array, a record or a union
-  Parts : Value
-
--- a place; of an index that goes through a type, with that type
-pub record Place : Type 0 where
-  pub path : Path
-  pub is_variable : Bool
-  pub through : Option ℕ
-
--- (`declared` is its type as it was declared, which may be opaque elsewhere and is seen through here.)
-pub record Operand : Type 0 where
-  pub kind : Kind
-  pub declared : Kind
-  pub value : Value
-  pub place : Option Place
-  pub constant : Constant
+abbrev pub Operand : Type 0
+Operand = OperandForm
 
 -- where a form stands
 abbrev pub at_mark : Mark → At
@@ -75,6 +56,34 @@ abbrev pub pointer_from : (node : ℕ) → Source → Pointer
 pointer_from node (OfPlace path) = UsePointer node path
 pointer_from node (OfCall call) = CallPointer node call
 
+-- a value of a sort
+abbrev pub value_of_sort : (node : ℕ) → Source → Sort → Value
+value_of_sort node source (NumberSort root) = Number root (scalar_from node source)
+value_of_sort node source StringSort = String (text_from node source)
+value_of_sort node source (MembersSort base) = Members base (set_from node source)
+value_of_sort node source (PointsSort collection) = Points collection (pointer_from node source)
+value_of_sort node source SealedNumber = Sealed (AScalar (scalar_from node source))
+value_of_sort node source SealedText = Sealed (AText (text_from node source))
+value_of_sort node source SealedSet = Sealed (ASet (set_from node source))
+value_of_sort node source SealedPointer = Sealed (APointer (pointer_from node source))
+value_of_sort node source PartsSort = Parts
+
+abbrev pub value_found : Found → Value
+value_found (AtPlace node sort place) = value_of_sort node (OfPlace place.path) sort
+value_found (AValue value) = value
+
+-- what an operand is where it is evaluated
+abbrev pub value_of : Operand → Value
+value_of a = value_found a.found
+
+abbrev pub place_found : Found → Option Place
+place_found (AtPlace node sort place) = Some place
+place_found (AValue value) = None
+
+-- the place that an operand is, if it is one
+abbrev pub place_of : Operand → Option Place
+place_of a = place_found a.found
+
 abbrev pub simple_of : Value → Option Simple
 simple_of (Number root e) = Some (AScalar e)
 simple_of (String e) = Some (AText e)
@@ -84,13 +93,10 @@ simple_of (Sealed e) = Some e
 simple_of Parts = None
 
 module _ (types : List Row) where
-  abbrev pub base_of : (type : ℕ) → Base
-  base_of n = record { low = (span_of types n).low; members = span_length (span_of types n) }
-
   -- what a type without parts takes
   abbrev pub target_of_form : TypeForm → Option Target
   target_of_form (string_type most) = Some (TakesText (Most most))
-  target_of_form (set_type base) = Some (TakesSet (base_of base))
+  target_of_form (set_type base) = Some (TakesSet (base_of types base))
   target_of_form (pointer_type collection) = Some (TakesPointer collection)
   target_of_form (ArrayOf indexes component) = None
   target_of_form (Record written fields) = None
@@ -106,36 +112,36 @@ module _ (types : List Row) where
   target_at AnyText = Some (TakesText AtName)
   target_at (AnyArray indexes component) = None
 
-  -- a value of an opaque type, of which its target tells what it is
-  abbrev pub sealed_from : (node : ℕ) → Source → Option Target → Value
-  sealed_from node source None = Parts
-  sealed_from node source (Some (TakesScalar s)) = Sealed (AScalar (scalar_from node source))
-  sealed_from node source (Some (TakesText size)) = Sealed (AText (text_from node source))
-  sealed_from node source (Some (TakesSet base)) = Sealed (ASet (set_from node source))
-  sealed_from node source (Some (TakesPointer collection)) = Sealed (APointer (pointer_from node source))
+  -- what is of an opaque type, of which its target tells what it is
+  abbrev pub sealed_sort : Option Target → Sort
+  sealed_sort None = PartsSort
+  sealed_sort (Some (TakesScalar s)) = SealedNumber
+  sealed_sort (Some (TakesText size)) = SealedText
+  sealed_sort (Some (TakesSet base)) = SealedSet
+  sealed_sort (Some (TakesPointer collection)) = SealedPointer
 
-  -- a value of a type
-  abbrev pub value_from : (node : ℕ) → Source → (type : ℕ) → TypeForm → Value
-  value_from node source n Int = Number n (scalar_from node source)
-  value_from node source n Boolean = Number n (scalar_from node source)
-  value_from node source n (Subrange root low high) = Number root (scalar_from node source)
-  value_from node source n (Enumeration written values) = Number n (scalar_from node source)
-  value_from node source n (string_type most) = String (text_from node source)
-  value_from node source n (set_type base) = Members base (set_from node source)
-  value_from node source n (pointer_type collection) = Points collection (pointer_from node source)
-  value_from node source n (ArrayOf indexes component) = Parts
-  value_from node source n (Record written fields) = Parts
-  value_from node source n (Union written tag_name tag variants) = Parts
-  value_from node source n (Opaque written) = sealed_from node source (target_of n)
+  -- what is of a type
+  abbrev pub sort_of_form : (type : ℕ) → TypeForm → Sort
+  sort_of_form n Int = NumberSort n
+  sort_of_form n Boolean = NumberSort n
+  sort_of_form n (Subrange root low high) = NumberSort root
+  sort_of_form n (Enumeration written values) = NumberSort n
+  sort_of_form n (string_type most) = StringSort
+  sort_of_form n (set_type base) = MembersSort base
+  sort_of_form n (pointer_type collection) = PointsSort collection
+  sort_of_form n (ArrayOf indexes component) = PartsSort
+  sort_of_form n (Record written fields) = PartsSort
+  sort_of_form n (Union written tag_name tag variants) = PartsSort
+  sort_of_form n (Opaque written) = sealed_sort (target_of n)
 
-  abbrev pub value_at : (node : ℕ) → Path → Kind → Value
-  value_at node path (Whole n) = value_from node (OfPlace path) n (row_at types n).form
-  value_at node path AnyText = String (UseText node path)
-  value_at node path (AnyArray indexes component) = Parts
+  abbrev pub sort_at : Kind → Sort
+  sort_at (Whole n) = sort_of_form n (row_at types n).form
+  sort_at AnyText = StringSort
+  sort_at (AnyArray indexes component) = PartsSort
 
   -- what stands at a place, and has the node's number where it is read
   abbrev pub at_place : (node : ℕ) → (kind declared : Kind) → Place → Constant → Operand
-  at_place node kind declared place constant = record { kind = kind; declared = declared; value = value_at node place.path kind; place = Some place; constant = constant }
+  at_place node kind declared place constant = record { kind = kind; declared = declared; found = AtPlace node (sort_at kind) place; constant = constant }
 
   -- the root of a type's values, where it is a type of numbers
   abbrev pub number_root : (type : ℕ) → TypeForm → Option ℕ
@@ -172,7 +178,7 @@ module _ (types : List Row) where
   fits_value n other = false
 
   abbrev pub fits : (type : ℕ) → Operand → Bool
-  fits n a = is_of_type n a.kind || fits_value n a.value
+  fits n a = is_of_type n a.kind || fits_value n (value_of a)
 
   abbrev pub index_of : Bounds → Index
   index_of (Within n) = Known (span_of types n)
@@ -180,7 +186,7 @@ module _ (types : List Row) where
 
 -- a value that is no place
 abbrev pub a_value : (type : ℕ) → Value → Constant → Operand
-a_value n value constant = record { kind = Whole n; declared = Whole n; value = value; place = None; constant = constant }
+a_value n value constant = record { kind = Whole n; declared = Whole n; found = AValue value; constant = constant }
 
 -- an int, a truth value or an enumeration value of its root type
 abbrev pub a_number : (root : ℕ) → Scalar → Constant → Operand

@@ -1,0 +1,5 @@
+pub mod CutOff
+pub mod Keys
+pub mod OneMore
+pub mod Numbering
+mod Rows
